@@ -1,0 +1,85 @@
+-- Which chain a sequence of drafting calls makes, and which refusal each call gives.
+use mathlib.Core.Path.{_≡_}
+use mathlib.Core.Bool.{cond}
+use mathlib.Core.List.{List, [], _∷_, _++_}
+use Prim.Native.Nat.{ℕ}
+use lib.Dec.{eqb, leb}
+use Rattle.std.specs.Of.Vec.{vec-items}
+use Rattle.std.specs.declared.option.Option.{Option}
+use Rattle.std.specs.declared.option.Option.the-variants.{Some, None}
+use Rattle.std.specs.declared.result.Result.{Result}
+use Rattle.std.specs.declared.result.Result.the-variants.{Ok, Err}
+use Rattle.chain.specs.declared.kinds.Pin.{Pin}
+use Rattle.chain.specs.declared.kinds.Pin.the-variants.{Free, Board}
+use Rattle.chain.specs.declared.kinds.Stage.{Stage}
+use Rattle.chain.specs.declared.chains.Chain.{Chain}
+use Rattle.chain.specs.declared.drafts.AwaitingStage.{AwaitingStage}
+use Rattle.chain.specs.declared.drafts.AwaitingMessage.{AwaitingMessage}
+use Rattle.chain.specs.declared.drafts.GivenBack.{GivenBack}
+use Rattle.chain.specs.declared.drafts.StartError.{StartError}
+use Rattle.chain.specs.declared.drafts.StartError.the-variants.{Refused, NoMemory}
+use Rattle.chain.specs.declared.refusals.DraftRefusal.{DraftRefusal}
+use Rattle.chain.specs.declared.refusals.DraftRefusal.the-variants.{Times, Length, PinAbove, StagesFull, NoName}
+use Rattle.chain.specs.Limits.{length-kept, times-kept}
+
+-- What a draft or a chain says, read off its type.
+pub record Contents : Type 0 where
+  pub name : ℕ
+  pub period : ℕ
+  pub deadline : ℕ
+  pub stages : List Stage
+  pub messages : List ℕ
+
+module _ {S B : ℕ} where
+  abbrev pub waiting : AwaitingStage S B → Contents
+  waiting d = record { name = d .name; period = d .period; deadline = d .deadline; stages = vec-items (d .stages); messages = vec-items (d .messages) }
+
+  abbrev pub staged : AwaitingMessage S B → Contents
+  staged d = record { name = d .name; period = d .period; deadline = d .deadline; stages = vec-items (d .stages); messages = vec-items (d .messages) }
+
+  abbrev pub contents : Chain S B → Contents
+  contents c = record { name = c .name; period = c .period; deadline = c .deadline; stages = vec-items (c .stages); messages = vec-items (c .messages) }
+
+-- a pin as it is written: 0 leaves the stage free
+abbrev pub pin-of : ℕ → Pin
+pin-of p = cond (eqb p 0) Free (Board p)
+
+-- each drafting step
+abbrev pub started : (name period deadline : ℕ) → Contents
+started n p d = record { name = n; period = p; deadline = d; stages = []; messages = [] }
+
+abbrev pub with-stage : Contents → (pin length : ℕ) → Contents
+with-stage c pin l = record { name = c .name; period = c .period; deadline = c .deadline; stages = c .stages ++ (record { pin = pin-of pin; length = l }) ∷ []; messages = c .messages }
+
+abbrev pub with-message : Contents → (length : ℕ) → Contents
+with-message c l = record { name = c .name; period = c .period; deadline = c .deadline; stages = c .stages; messages = c .messages ++ l ∷ [] }
+
+-- what is wrong with a length, if anything; and so below for each drafting call, the first that holds
+abbrev pub length-refusal : ℕ → Option DraftRefusal
+length-refusal l = cond (length-kept l) None (Some (Length l))
+
+abbrev pub start-refusal : (name period deadline : ℕ) → Option DraftRefusal
+start-refusal n p d = cond (eqb n 0) (Some NoName) (cond (times-kept p d) None (Some (Times p d)))
+
+abbrev pub stage-refusal : (boards pin length : ℕ) → Option DraftRefusal
+stage-refusal boards pin l = cond (leb pin boards) (length-refusal l) (Some (PinAbove pin))
+
+abbrev pub message-refusal : (most stages length : ℕ) → Option DraftRefusal
+message-refusal most stages l = cond (leb most stages) (Some StagesFull) (length-refusal l)
+
+-- The answer of a drafting call on a draft: where there is a refusal, just that and the draft as
+-- it was; where there is none, a next draft with P.
+abbrev pub Answers : {D N : Type 0} → Option DraftRefusal → D → (N → Type 0) → Result N (GivenBack D) → Type 0
+Answers None d P (Ok n) = P n
+Answers None d P (Err e) = ⊥
+Answers (Some why) d P (Ok n) = ⊥
+Answers (Some why) d P (Err e) = (e .draft ≡ d) × (e .why ≡ why)
+
+-- The answer of the call that starts a draft: want of memory only where there is no refusal.
+abbrev pub Starts : {N : Type 0} → Option DraftRefusal → (N → Type 0) → Result N StartError → Type 0
+Starts None P (Ok n) = P n
+Starts None P (Err NoMemory) = Unit {0}
+Starts None P (Err (Refused why)) = ⊥
+Starts (Some why) P (Ok n) = ⊥
+Starts (Some why) P (Err NoMemory) = ⊥
+Starts (Some why) P (Err (Refused w)) = w ≡ why

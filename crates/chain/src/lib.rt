@@ -1,0 +1,14 @@
+// Chains of stages: how a chain is drafted, the limits it always keeps, and the windows of its
+// parts once every stage has a board. A draft that waits for a stage and one that has just taken
+// a stage are two types, so a chain with a message too many is not a program. It stands on
+// nothing but the standard library.
+pub mod chains;
+pub mod drafting;
+pub mod drafts;
+pub mod kinds;
+pub mod refusals;
+
+// The most stages of a chain, and the most boards that a pin can name. These two lines are the
+// only places that fix the numbers: types and definitions take them as parameters.
+pub const STAGES: usize = 6;
+pub const BOARDS: u8 = 4;
