@@ -1,1 +1,4 @@
+pub mod Ends
+pub mod Filling
 pub mod Kept
+pub mod PartSteps

@@ -9,9 +9,9 @@ use Rattle.std.specs.declared.option.Option.{Option}
 use Rattle.std.specs.declared.option.Option.the-variants.{Some, None}
 use Rattle.std.specs.declared.result.Result.{Result}
 use Rattle.std.specs.declared.result.Result.the-variants.{Ok, Err}
-use Rattle.chain.specs.declared.kinds.Pin.{Pin}
-use Rattle.chain.specs.declared.kinds.Pin.the-variants.{Free, Board}
-use Rattle.chain.specs.declared.kinds.Stage.{Stage}
+use Rattle.chain.specs.declared.stages.Pin.{Pin}
+use Rattle.chain.specs.declared.stages.Pin.the-variants.{Free, Board}
+use Rattle.chain.specs.declared.stages.Stage.{Stage}
 use Rattle.chain.specs.declared.chains.Chain.{Chain}
 use Rattle.chain.specs.declared.drafts.AwaitingStage.{AwaitingStage}
 use Rattle.chain.specs.declared.drafts.AwaitingMessage.{AwaitingMessage}

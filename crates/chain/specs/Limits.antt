@@ -3,9 +3,9 @@ use mathlib.Core.Bool.{Bool, true, _&&_}
 use mathlib.Core.List.{List, [], _∷_}
 use Prim.Native.Nat.{ℕ}
 use lib.Dec.{leb}
-use Rattle.chain.specs.declared.kinds.Pin.{Pin}
-use Rattle.chain.specs.declared.kinds.Pin.the-variants.{Free, Board}
-use Rattle.chain.specs.declared.kinds.Stage.{Stage}
+use Rattle.chain.specs.declared.stages.Pin.{Pin}
+use Rattle.chain.specs.declared.stages.Pin.the-variants.{Free, Board}
+use Rattle.chain.specs.declared.stages.Stage.{Stage}
 
 -- the longest period, and the longest stage or message
 abbrev pub most-ticks : ℕ

@@ -4,7 +4,7 @@ ghost use mathlib.Core.Path.{_≡_};
 ghost use Prim.Native.Nat.{_+_, _≤_, max};
 ghost use Rattle.std.specs.Of.Vec.{vec-items, vec-len};
 ghost use Rattle.chain.specs.Limits.{all-kept, length-kept, stage-kept, times-kept};
-use super::kinds::Stage;
+use super::stages::Stage;
 
 // A chain of at most `S` stages, with pins to boards 1 to `B`: message k stands between the
 // stages k and k + 1.

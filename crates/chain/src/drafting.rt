@@ -9,9 +9,9 @@ use super::drafts::AwaitingMessage;
 use super::drafts::AwaitingStage;
 use super::drafts::GivenBack;
 use super::drafts::StartError;
-use super::kinds::Pin;
-use super::kinds::Stage;
 use super::refusals::DraftRefusal;
+use super::stages::Pin;
+use super::stages::Stage;
 use std::alloc::Global;
 
 // The longest period, and the longest stage or message.
@@ -74,7 +74,12 @@ impl Pin {
 
 impl<const S: usize, const B: u8> AwaitingStage<S, B> {
     // Starts a draft, with room for the most stages.
-    pub fn start(heap: Global, name: u16, period: u32, deadline: u32) -> Result<AwaitingStage<S, B>, StartError>
+    pub fn start(
+        heap: Global,
+        name: u16,
+        period: u32,
+        deadline: u32,
+    ) -> Result<AwaitingStage<S, B>, StartError>
         ensures { λ r. ⌜ Starts (start-refusal name period deadline) (λ d. waiting d ≡ started name period deadline) r ⌝ }
     {
         if let Some(why) = check_start(name, period, deadline) {
@@ -86,37 +91,89 @@ impl<const S: usize, const B: u8> AwaitingStage<S, B> {
         let Ok(messages) = Vec::with_capacity(heap, S.max(1)) else {
             return Err(StartError::NoMemory);
         };
-        Ok(AwaitingStage { name, period, deadline, stages, messages })
+        Ok(AwaitingStage {
+            name,
+            period,
+            deadline,
+            stages,
+            messages,
+        })
     }
 
-    pub fn stage(self, pin: u8, length: u32) -> Result<AwaitingMessage<S, B>, GivenBack<AwaitingStage<S, B>>>
+    pub fn stage(
+        self,
+        pin: u8,
+        length: u32,
+    ) -> Result<AwaitingMessage<S, B>, GivenBack<AwaitingStage<S, B>>>
         ensures { λ r. ⌜ Answers (stage-refusal B pin length) (self .entry) (λ d. staged d ≡ with-stage (waiting (self .entry)) pin length) r ⌝ }
     {
         if let Some(why) = check_stage(B, pin, length) {
             return Err(GivenBack { draft: self, why });
         }
-        let AwaitingStage { name, period, deadline, mut stages, messages } = self;
-        stages.push_reserved(Stage { pin: Pin::from_number(pin), length });
-        Ok(AwaitingMessage { name, period, deadline, stages, messages })
+        let AwaitingStage {
+            name,
+            period,
+            deadline,
+            mut stages,
+            messages,
+        } = self;
+        stages.push_reserved(Stage {
+            pin: Pin::from_number(pin),
+            length,
+        });
+        Ok(AwaitingMessage {
+            name,
+            period,
+            deadline,
+            stages,
+            messages,
+        })
     }
 }
 
 impl<const S: usize, const B: u8> AwaitingMessage<S, B> {
-    pub fn message(self, length: u32) -> Result<AwaitingStage<S, B>, GivenBack<AwaitingMessage<S, B>>>
+    pub fn message(
+        self,
+        length: u32,
+    ) -> Result<AwaitingStage<S, B>, GivenBack<AwaitingMessage<S, B>>>
         ensures { λ r. ⌜ Answers (message-refusal S (vec-len (self .entry .stages)) length) (self .entry) (λ d. waiting d ≡ with-message (staged (self .entry)) length) r ⌝ }
     {
         if let Some(why) = check_message(S, self.stages.len(), length) {
             return Err(GivenBack { draft: self, why });
         }
-        let AwaitingMessage { name, period, deadline, stages, mut messages } = self;
+        let AwaitingMessage {
+            name,
+            period,
+            deadline,
+            stages,
+            mut messages,
+        } = self;
         messages.push_reserved(length);
-        Ok(AwaitingStage { name, period, deadline, stages, messages })
+        Ok(AwaitingStage {
+            name,
+            period,
+            deadline,
+            stages,
+            messages,
+        })
     }
 
     pub fn finish(self) -> Chain<S, B>
         ensures { λ r. ⌜ contents r ≡ staged (self .entry) ⌝ }
     {
-        let AwaitingMessage { name, period, deadline, stages, messages } = self;
-        Chain { name, period, deadline, stages, messages }
+        let AwaitingMessage {
+            name,
+            period,
+            deadline,
+            stages,
+            messages,
+        } = self;
+        Chain {
+            name,
+            period,
+            deadline,
+            stages,
+            messages,
+        }
     }
 }

@@ -4,10 +4,10 @@ ghost use mathlib.Core.Path.{_≡_};
 ghost use Prim.Native.Nat.{_+_, _≤_, _<_, max};
 ghost use Rattle.std.specs.Of.Vec.{vec-items, vec-len, vec-cap};
 ghost use Rattle.chain.specs.Limits.{all-kept, length-kept, stage-kept, times-kept};
-use super::kinds::Stage;
 use super::refusals::DraftRefusal;
 use super::refusals::DraftRefusalDebug;
 use super::refusals::DraftRefusalPartialEq;
+use super::stages::Stage;
 
 // A draft that waits for a stage: as many messages as stages. Both rows have their room.
 #[derive(Drop)]

@@ -5,10 +5,13 @@
 pub mod chains;
 pub mod drafting;
 pub mod drafts;
-pub mod kinds;
+pub mod parts;
 pub mod refusals;
+pub mod stages;
+pub mod windows;
 
 // The most stages of a chain, and the most boards that a pin can name. These two lines are the
 // only places that fix the numbers: types and definitions take them as parameters.
 pub const STAGES: usize = 6;
+
 pub const BOARDS: u8 = 4;

@@ -1,0 +1,35 @@
+use mathlib.Core.Path.{_≡_, ap}
+use Prim.Native.Nat.{_+_, _<_}
+use native.Mathlib.Omega.{arith}
+use lib.ListN.{length}
+use Rattle.std.specs.Of.Vec.{vec-items}
+use Rattle.chain.specs.Drafting.{contents}
+use Rattle.chain.specs.Parts.{parts, total}
+use Rattle.chain.proofs.Filling.{some-work}
+use Rattle.chain.proofs.PartSteps.{left-at, nothing-left, total-step}
+use Rattle.chain.proofs.windows.total_within.Given as given
+use Rattle.chain.proofs.windows.total_within.Needs as need
+use Rattle.chain.proofs.windows.total_within.Needs.{After-from-in-loop-k-2}
+
+-- one turn adds the lengths of a stage and of its message
+turn : (g : given.Over) (c : After-from-in-loop-k-2 g) → c .loop-k .upto + (c .from .result + c .from-in-loop-k .result) + total (left-at (vec-items (c .args .chain .now .messages)) (c .args .boards .now) (vec-items (c .args .chain .now .stages)) (c .loop-k .k + 1)) ≡ total (parts (contents (c .args .chain .now)) (c .args .boards .now))
+turn g c =
+    let inside : c .loop-k .k < length (vec-items (c .args .chain .now .stages)) = omega (arith, c .args .chain .now .stages .ok .0) in
+    omega (
+      arith,
+      total-step (vec-items (c .args .chain .now .messages)) (c .args .boards .now) (vec-items (c .args .chain .now .stages)) (c .loop-k .k) (c .index .result .now) inside (c .index .ensures),
+      ap total (c .message-after-message .ensures),
+    )
+
+pub returns-then-upto-from : need.returns-then-upto-from
+returns-then-upto-from g c = omega (arith, turn g (need.at·returns-then-upto-from g c .After-from-in-loop-k-2))
+
+pub loop-k-again : need.loop-k-again
+loop-k-again g c = (omega arith, turn g (need.at·loop-k-again g c .After-from-in-loop-k-2))
+
+pub returns : need.returns
+returns g c =
+    let chain = c .args .chain .now in
+    let done = ap total (nothing-left (vec-items (chain .messages)) (c .args .boards .now) (vec-items (chain .stages)) (c .loop-k .k) (omega (arith, chain .stages .ok .0))) in
+    let some = some-work (g .B) (vec-items (chain .messages)) (c .args .boards .now) (vec-items (chain .stages)) (omega (arith, chain .stages .ok .0, chain .between)) (chain .«stages_kept») in
+    (omega (arith, done), omega (arith, done, some), c .loop-k .inv .0)
