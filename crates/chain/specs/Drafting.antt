@@ -18,9 +18,8 @@ use Rattle.chain.specs.declared.drafts.AwaitingMessage.{AwaitingMessage}
 use Rattle.chain.specs.declared.drafts.GivenBack.{GivenBack}
 use Rattle.chain.specs.declared.drafts.StartError.{StartError}
 use Rattle.chain.specs.declared.drafts.StartError.the-variants.{Refused, NoMemory}
-use Rattle.chain.specs.declared.refusals.DraftRefusal.{DraftRefusal}
-use Rattle.chain.specs.declared.refusals.DraftRefusal.the-variants.{Times, Length, PinAbove, StagesFull, NoName}
 use Rattle.chain.specs.Limits.{length-kept, times-kept}
+use Rattle.chain.specs.Refusals.{Described, described, numbered}
 
 -- What a draft or a chain says, read off its type.
 pub record Contents : Type 0 where
@@ -54,32 +53,33 @@ with-stage c pin l = record { name = c .name; period = c .period; deadline = c .
 abbrev pub with-message : Contents → (length : ℕ) → Contents
 with-message c l = record { name = c .name; period = c .period; deadline = c .deadline; stages = c .stages; messages = c .messages ++ l ∷ [] }
 
--- what is wrong with a length, if anything; and so below for each drafting call, the first that holds
-abbrev pub length-refusal : ℕ → Option DraftRefusal
-length-refusal l = cond (length-kept l) None (Some (Length l))
+-- what is wrong with a length, if anything; and so below for each drafting call, by the first
+-- condition that holds
+abbrev pub length-refusal : ℕ → Option Described
+length-refusal l = cond (length-kept l) None (Some (numbered 2 (l ∷ [])))
 
-abbrev pub start-refusal : (name period deadline : ℕ) → Option DraftRefusal
-start-refusal n p d = cond (eqb n 0) (Some NoName) (cond (times-kept p d) None (Some (Times p d)))
+abbrev pub start-refusal : (name period deadline : ℕ) → Option Described
+start-refusal n p d = cond (eqb n 0) (Some (numbered 6 [])) (cond (times-kept p d) None (Some (numbered 1 (p ∷ d ∷ []))))
 
-abbrev pub stage-refusal : (boards pin length : ℕ) → Option DraftRefusal
-stage-refusal boards pin l = cond (leb pin boards) (length-refusal l) (Some (PinAbove pin))
+abbrev pub stage-refusal : (boards pin length : ℕ) → Option Described
+stage-refusal boards pin l = cond (leb pin boards) (length-refusal l) (Some (numbered 3 (pin ∷ [])))
 
-abbrev pub message-refusal : (most stages length : ℕ) → Option DraftRefusal
-message-refusal most stages l = cond (leb most stages) (Some StagesFull) (length-refusal l)
+abbrev pub message-refusal : (most stages length : ℕ) → Option Described
+message-refusal most stages l = cond (leb most stages) (Some (numbered 4 [])) (length-refusal l)
 
 -- The answer of a drafting call on a draft: where there is a refusal, just that and the draft as
 -- it was; where there is none, a next draft with P.
-abbrev pub Answers : {D N : Type 0} → Option DraftRefusal → D → (N → Type 0) → Result N (GivenBack D) → Type 0
+abbrev pub Answers : {D N : Type 0} → Option Described → D → (N → Type 0) → Result N (GivenBack D) → Type 0
 Answers None d P (Ok n) = P n
 Answers None d P (Err e) = ⊥
 Answers (Some why) d P (Ok n) = ⊥
-Answers (Some why) d P (Err e) = (e .draft ≡ d) × (e .why ≡ why)
+Answers (Some why) d P (Err e) = (e .draft ≡ d) × (described (e .why) ≡ why)
 
 -- The answer of the call that starts a draft: want of memory only where there is no refusal.
-abbrev pub Starts : {N : Type 0} → Option DraftRefusal → (N → Type 0) → Result N StartError → Type 0
+abbrev pub Starts : {N : Type 0} → Option Described → (N → Type 0) → Result N StartError → Type 0
 Starts None P (Ok n) = P n
 Starts None P (Err NoMemory) = Unit {0}
 Starts None P (Err (Refused why)) = ⊥
 Starts (Some why) P (Ok n) = ⊥
 Starts (Some why) P (Err NoMemory) = ⊥
-Starts (Some why) P (Err (Refused w)) = w ≡ why
+Starts (Some why) P (Err (Refused w)) = described w ≡ why

@@ -1,4 +1,5 @@
--- Each refusal of a drafting call, with its number and the values that it carries.
+-- Each refusal of a drafting call, with its number and the values that it carries. Promises about
+-- refusals are stated by number and values.
 use mathlib.Core.List.{List, [], _∷_}
 use Prim.Native.Nat.{ℕ}
 use Rattle.chain.specs.declared.refusals.DraftRefusal.{DraftRefusal}
@@ -8,12 +9,12 @@ pub record Described : Type 0 where
   pub number : ℕ
   pub values : List ℕ
 
-abbrev pub described : DraftRefusal → Described
-described (Times period deadline) = record { number = 1; values = period ∷ deadline ∷ [] }
-described (Length length) = record { number = 2; values = length ∷ [] }
-described (PinAbove pin) = record { number = 3; values = pin ∷ [] }
-described StagesFull = record { number = 4; values = [] }
-described NoName = record { number = 6; values = [] }
+abbrev pub numbered : ℕ → List ℕ → Described
+numbered n vs = record { number = n; values = vs }
 
-abbrev pub number : DraftRefusal → ℕ
-number r = described r .number
+abbrev pub described : DraftRefusal → Described
+described (Times period deadline) = numbered 1 (period ∷ deadline ∷ [])
+described (Length length) = numbered 2 (length ∷ [])
+described (PinAbove pin) = numbered 3 (pin ∷ [])
+described StagesFull = numbered 4 []
+described NoName = numbered 6 []

@@ -1,9 +1,10 @@
 // The drafting calls. Each checks its numbers in a fixed order and refuses by the first that is
 // wrong. Memory is taken once, when a draft is started.
 ghost use mathlib.Core.Path.{_≡_};
-ghost use Prim.Native.Nat.{_≤_, _<_};
 ghost use Rattle.std.specs.Of.Vec.{vec-len};
+ghost use Rattle.std.specs.Options.{mapped};
 ghost use Rattle.chain.specs.Drafting.{Answers, Starts, contents, length-refusal, message-refusal, pin-of, stage-refusal, staged, start-refusal, started, waiting, with-message, with-stage};
+ghost use Rattle.chain.specs.Refusals.{described};
 use super::chains::Chain;
 use super::drafts::AwaitingMessage;
 use super::drafts::AwaitingStage;
@@ -18,7 +19,7 @@ use std::alloc::Global;
 const MOST_TICKS: u32 = 1_000_000;
 
 fn check_length(length: u32) -> Option<DraftRefusal>
-    ensures { λ r. ⌜ r ≡ length-refusal length ⌝ }
+    ensures { λ r. ⌜ mapped described r ≡ length-refusal length ⌝ }
 {
     if 1 <= length && length <= MOST_TICKS {
         None
@@ -29,7 +30,7 @@ fn check_length(length: u32) -> Option<DraftRefusal>
 
 // What is wrong with a new draft's name, period and deadline, if anything.
 pub fn check_start(name: u16, period: u32, deadline: u32) -> Option<DraftRefusal>
-    ensures { λ r. ⌜ r ≡ start-refusal name period deadline ⌝ }
+    ensures { λ r. ⌜ mapped described r ≡ start-refusal name period deadline ⌝ }
 {
     if name == 0 {
         return Some(DraftRefusal::NoName);
@@ -43,7 +44,7 @@ pub fn check_start(name: u16, period: u32, deadline: u32) -> Option<DraftRefusal
 
 // What is wrong with a stage for chains with pins to boards 1 to `boards`, if anything.
 pub fn check_stage(boards: u8, pin: u8, length: u32) -> Option<DraftRefusal>
-    ensures { λ r. ⌜ r ≡ stage-refusal boards pin length ⌝ }
+    ensures { λ r. ⌜ mapped described r ≡ stage-refusal boards pin length ⌝ }
 {
     if pin <= boards {
         check_length(length)
@@ -54,7 +55,7 @@ pub fn check_stage(boards: u8, pin: u8, length: u32) -> Option<DraftRefusal>
 
 // What is wrong with a message on a draft of `stages` stages out of `most`, if anything.
 pub fn check_message(most: usize, stages: usize, length: u32) -> Option<DraftRefusal>
-    ensures { λ r. ⌜ r ≡ message-refusal most stages length ⌝ }
+    ensures { λ r. ⌜ mapped described r ≡ message-refusal most stages length ⌝ }
 {
     if stages >= most {
         Some(DraftRefusal::StagesFull)
