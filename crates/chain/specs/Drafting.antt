@@ -3,7 +3,7 @@ use mathlib.Core.Path.{_≡_}
 use mathlib.Core.Bool.{cond}
 use mathlib.Core.List.{List, [], _∷_, _++_}
 use Prim.Native.Nat.{ℕ}
-use lib.Dec.{eqb, leb}
+use lib.Dec.{eqb, leb, ltb}
 use Rattle.std.specs.Of.Vec.{vec-items}
 use Rattle.std.specs.declared.option.Option.{Option}
 use Rattle.std.specs.declared.option.Option.the-variants.{Some, None}
@@ -19,7 +19,7 @@ use Rattle.chain.specs.declared.drafts.GivenBack.{GivenBack}
 use Rattle.chain.specs.declared.drafts.StartError.{StartError}
 use Rattle.chain.specs.declared.drafts.StartError.the-variants.{Refused, NoMemory}
 use Rattle.chain.specs.Limits.{length-kept, times-kept}
-use Rattle.chain.specs.Refusals.{Described, described, numbered}
+use Rattle.chain.specs.Refusals.{Described, described, first-of, numbered, unless}
 
 -- What a draft or a chain says, read off its type.
 pub record Contents : Type 0 where
@@ -53,19 +53,18 @@ with-stage c pin l = record { name = c .name; period = c .period; deadline = c .
 abbrev pub with-message : Contents → (length : ℕ) → Contents
 with-message c l = record { name = c .name; period = c .period; deadline = c .deadline; stages = c .stages; messages = c .messages ++ l ∷ [] }
 
--- what is wrong with a length, if anything; and so below for each drafting call, by the first
--- condition that holds
+-- what is wrong with the numbers of each drafting call, if anything
 abbrev pub length-refusal : ℕ → Option Described
-length-refusal l = cond (length-kept l) None (Some (numbered 2 (l ∷ [])))
+length-refusal l = unless (length-kept l) (numbered 2 (l ∷ []))
 
 abbrev pub start-refusal : (name period deadline : ℕ) → Option Described
-start-refusal n p d = cond (eqb n 0) (Some (numbered 6 [])) (cond (times-kept p d) None (Some (numbered 1 (p ∷ d ∷ []))))
+start-refusal n p d = first-of (unless (leb 1 n) (numbered 6 []) ∷ unless (times-kept p d) (numbered 1 (p ∷ d ∷ [])) ∷ [])
 
 abbrev pub stage-refusal : (boards pin length : ℕ) → Option Described
-stage-refusal boards pin l = cond (leb pin boards) (length-refusal l) (Some (numbered 3 (pin ∷ [])))
+stage-refusal boards pin l = first-of (unless (leb pin boards) (numbered 3 (pin ∷ [])) ∷ length-refusal l ∷ [])
 
 abbrev pub message-refusal : (most stages length : ℕ) → Option Described
-message-refusal most stages l = cond (leb most stages) (Some (numbered 4 [])) (length-refusal l)
+message-refusal most stages l = first-of (unless (ltb stages most) (numbered 4 []) ∷ length-refusal l ∷ [])
 
 -- The answer of a drafting call on a draft: where there is a refusal, just that and the draft as
 -- it was; where there is none, a next draft with P.

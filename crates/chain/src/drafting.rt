@@ -18,7 +18,8 @@ use std::alloc::Global;
 // The longest period, and the longest stage or message.
 const MOST_TICKS: u32 = 1_000_000;
 
-fn check_length(length: u32) -> Option<DraftRefusal>
+// What is wrong with the length of a stage or a message, if anything.
+pub fn check_length(length: u32) -> Option<DraftRefusal>
     ensures { λ r. ⌜ mapped described r ≡ length-refusal length ⌝ }
 {
     if 1 <= length && length <= MOST_TICKS {
