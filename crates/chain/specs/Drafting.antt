@@ -66,19 +66,14 @@ stage-refusal boards pin l = first-of (unless (leb pin boards) (numbered 3 (pin 
 abbrev pub message-refusal : (most stages length : ℕ) → Option Described
 message-refusal most stages l = first-of (unless (ltb stages most) (numbered 4 []) ∷ length-refusal l ∷ [])
 
--- The answer of a drafting call on a draft: where there is a refusal, just that and the draft as
--- it was; where there is none, a next draft with P.
+-- The answer of a drafting call on a draft, `why` being what is wrong with its numbers: a next
+-- draft with P where nothing is; else just that refusal, and the draft as it was.
 abbrev pub Answers : {D N : Type 0} → Option Described → D → (N → Type 0) → Result N (GivenBack D) → Type 0
-Answers None d P (Ok n) = P n
-Answers None d P (Err e) = ⊥
-Answers (Some why) d P (Ok n) = ⊥
-Answers (Some why) d P (Err e) = (e .draft ≡ d) × (described (e .why) ≡ why)
+Answers why d P (Ok n) = (why ≡ None) × P n
+Answers why d P (Err e) = (why ≡ Some (described (e .why))) × (e .draft ≡ d)
 
--- The answer of the call that starts a draft: want of memory only where there is no refusal.
+-- The answer of the call that starts a draft: want of memory only where nothing is wrong.
 abbrev pub Starts : {N : Type 0} → Option Described → (N → Type 0) → Result N StartError → Type 0
-Starts None P (Ok n) = P n
-Starts None P (Err NoMemory) = Unit {0}
-Starts None P (Err (Refused why)) = ⊥
-Starts (Some why) P (Ok n) = ⊥
-Starts (Some why) P (Err NoMemory) = ⊥
-Starts (Some why) P (Err (Refused w)) = described w ≡ why
+Starts why P (Ok n) = (why ≡ None) × P n
+Starts why P (Err NoMemory) = why ≡ None
+Starts why P (Err (Refused w)) = why ≡ Some (described w)

@@ -7,6 +7,14 @@ use Rattle.chain.specs.declared.stages.Pin.{Pin}
 use Rattle.chain.specs.declared.stages.Pin.the-variants.{Free, Board}
 use Rattle.chain.specs.declared.stages.Stage.{Stage}
 
+-- The usual kind of chain: six stages at the most, and pins to four boards. Types and definitions
+-- take both numbers as parameters; here is the only place in specs/ that fixes them.
+abbrev pub most-stages : ℕ
+most-stages = 6
+
+abbrev pub most-boards : ℕ
+most-boards = 4
+
 -- the longest period, and the longest stage or message
 abbrev pub most-ticks : ℕ
 most-ticks = 1000000

@@ -1,0 +1,80 @@
+-- The chain file: which chains its bytes hold, or which refusal comes at which record.
+use mathlib.Core.Bool.{Bool, cond, _&&_}
+use mathlib.Core.List.{List, [], _∷_, map}
+use Prim.Native.Nat.{ℕ, zero, suc, _+_, _-_, _*_, _%_}
+use lib.Dec.{eqb, leb, ltb}
+use lib.ListN.{drop, getD, length, take}
+use Rattle.std.specs.Iters.{counting}
+use Rattle.std.specs.declared.option.Option.{Option}
+use Rattle.std.specs.declared.option.Option.the-variants.{Some, None}
+use Rattle.chain.specs.Drafting.{Contents, length-refusal, stage-refusal, start-refusal}
+use Rattle.chain.specs.Limits.{most-boards, most-stages}
+use Rattle.chain.specs.Refusals.{Described, first-of, numbered, unless}
+use Rattle.chain_file.specs.declared.fields.Head.{Head}
+use Rattle.chain_file.specs.Fields.{head, message-length, pin, rest, said, stage-length, two}
+
+abbrev pub most-chains : ℕ
+most-chains = 16
+
+-- The header: byte 0 is the version, byte 1 the board count.
+abbrev pub header-refusal : List ℕ → Option Described
+header-refusal bs = first-of (
+    unless (leb 1 (length bs)) (numbered 14 [])
+    ∷ unless (eqb (getD bs 0 0) 1) (numbered 13 (getD bs 0 0 ∷ []))
+    ∷ unless (leb 2 (length bs)) (numbered 14 [])
+    ∷ unless (leb 1 (getD bs 1 0) && leb (getD bs 1 0) most-boards) (numbered 5 (getD bs 1 0 ∷ []))
+    ∷ [])
+
+-- a body of n stages has 7 + 9n bytes
+abbrev pub body-size : ℕ → ℕ
+body-size n = 7 + 9 * n
+
+-- one of the sizes for 1 to 6 stages
+abbrev pub size-kept : ℕ → Bool
+size-kept n = eqb (n % 9) 7 && (leb (body-size 1) n && leb n (body-size most-stages))
+
+-- what is wrong with stage k of n and with the message after it
+abbrev pub stage-row-refusal : (n : ℕ) (rest : List ℕ) → ℕ → Option Described
+stage-row-refusal n rest k = first-of (
+    stage-refusal most-boards (pin rest k) (stage-length rest k)
+    ∷ cond (ltb (k + 1) n) (length-refusal (message-length rest k)) None
+    ∷ [])
+
+abbrev pub rows-refusal : (n : ℕ) (rest : List ℕ) → Option Described
+rows-refusal n rest = first-of (map (stage-row-refusal n rest) (counting 0 n))
+
+-- the fields, in the order in which they stand
+abbrev pub fields-refusal : Head → (rest : List ℕ) → Option Described
+fields-refusal h rest = first-of (start-refusal (h .name) (h .period) (h .deadline) ∷ rows-refusal (h .stages) rest ∷ [])
+
+-- A record: the length of its body in two bytes, then the body.
+abbrev pub body : List ℕ → List ℕ
+body bs = take (two bs 0) (drop 2 bs)
+
+abbrev pub after-record : List ℕ → List ℕ
+after-record bs = drop (2 + two bs 0) bs
+
+-- what is wrong with the record that stands first in bs, `read` records being read before it
+abbrev pub record-refusal : (read : ℕ) → List ℕ → Option Described
+record-refusal read bs = first-of (
+    unless (ltb read most-chains) (numbered 16 [])
+    ∷ unless (leb 2 (length bs)) (numbered 14 [])
+    ∷ unless (size-kept (two bs 0)) (numbered 15 (two bs 0 ∷ []))
+    ∷ unless (leb (2 + two bs 0) (length bs)) (numbered 14 [])
+    ∷ unless (eqb (body-size (head (body bs) .stages)) (two bs 0)) (numbered 15 (two bs 0 ∷ []))
+    ∷ fields-refusal (head (body bs)) (rest (body bs))
+    ∷ [])
+
+-- What comes next in a file: its end, a refusal, or a chain and the bytes after its record.
+pub data Next : Type 0 where
+  the-end : Next
+  refused : Described → Next
+  chain : Contents → List ℕ → Next
+
+abbrev pub unless-refused : Option Described → List ℕ → Next
+unless-refused None bs = chain (said (head (body bs)) (rest (body bs))) (after-record bs)
+unless-refused (Some why) bs = refused why
+
+abbrev pub next : (read : ℕ) → List ℕ → Next
+next read [] = the-end
+next read (b ∷ bs) = unless-refused (record-refusal read (b ∷ bs)) (b ∷ bs)

@@ -1,0 +1,2 @@
+-- What the reader's calls answer, by the format.
+use mathlib.Core.Path.{_≡_}
