@@ -47,6 +47,13 @@ rows-refusal n rest = first-of (map (stage-row-refusal n rest) (counting 0 n))
 abbrev pub fields-refusal : Head → (rest : List ℕ) → Option Described
 fields-refusal h rest = first-of (start-refusal (h .name) (h .period) (h .deadline) ∷ rows-refusal (h .stages) rest ∷ [])
 
+-- what is wrong with a body: its stage count, then its fields
+abbrev pub body-refusal : List ℕ → Option Described
+body-refusal body = first-of (
+    unless (eqb (body-size (head body .stages)) (length body)) (numbered 15 (length body ∷ []))
+    ∷ fields-refusal (head body) (rest body)
+    ∷ [])
+
 -- A record: the length of its body in two bytes, then the body.
 abbrev pub body : List ℕ → List ℕ
 body bs = take (two bs 0) (drop 2 bs)
@@ -54,16 +61,18 @@ body bs = take (two bs 0) (drop 2 bs)
 abbrev pub after-record : List ℕ → List ℕ
 after-record bs = drop (2 + two bs 0) bs
 
--- what is wrong with the record that stands first in bs, `read` records being read before it
-abbrev pub record-refusal : (read : ℕ) → List ℕ → Option Described
-record-refusal read bs = first-of (
+-- what is wrong with the record that stands first in bs, `read` records being read before it:
+-- first with where it begins and ends, then with its body
+abbrev pub cut-refusal : (read : ℕ) → List ℕ → Option Described
+cut-refusal read bs = first-of (
     unless (ltb read most-chains) (numbered 16 [])
     ∷ unless (leb 2 (length bs)) (numbered 14 [])
     ∷ unless (size-kept (two bs 0)) (numbered 15 (two bs 0 ∷ []))
     ∷ unless (leb (2 + two bs 0) (length bs)) (numbered 14 [])
-    ∷ unless (eqb (body-size (head (body bs) .stages)) (two bs 0)) (numbered 15 (two bs 0 ∷ []))
-    ∷ fields-refusal (head (body bs)) (rest (body bs))
     ∷ [])
+
+abbrev pub record-refusal : (read : ℕ) → List ℕ → Option Described
+record-refusal read bs = first-of (cut-refusal read bs ∷ body-refusal (body bs) ∷ [])
 
 -- What comes next in a file: its end, a refusal, or a chain and the bytes after its record.
 pub data Next : Type 0 where
