@@ -1,4 +1,5 @@
 pub mod Ends
 pub mod Filling
+pub mod Firsts
 pub mod Kept
 pub mod PartSteps

@@ -5,44 +5,44 @@ use mathlib.Core.List.{List, [], _∷_, _++_, map}
 use Prim.Native.Nat.{ℕ, _+_, _-_, _≤_, _<_}
 use native.Mathlib.Omega.{arith}
 use lib.Dec.{ltb}
-use lib.ListN.{length}
-use Rattle.std.proofs.shelf.Counted.{length-map-counting, map-counting-more}
+use lib.ListN.{getD, length}
+use Rattle.std.proofs.shelf.Counted.{getD-counting, length-counting, length-map-counting, map-counting-more}
 use Rattle.std.proofs.shelf.Tests.{lt-ltb}
 use Rattle.std.proofs.shelf.Ways.{tells}
 use Rattle.std.specs.Iters.{counting}
 use Rattle.std.specs.declared.option.Option.{Option}
 use Rattle.std.specs.declared.option.Option.the-variants.{Some, None}
+use Rattle.chain.proofs.Firsts.{none-first, none-stands}
 use Rattle.chain.specs.Drafting.{Contents, length-refusal, message-refusal, stage-refusal, start-refusal, with-message, with-stage}
 use Rattle.chain.specs.Limits.{most-boards, most-stages}
-use Rattle.chain.specs.Refusals.{Described, first-of}
+use Rattle.chain.specs.Refusals.{Described}
 use Rattle.chain_file.specs.declared.fields.Head.{Head}
 use Rattle.chain_file.specs.Fields.{message-length, pin, said, stage, stage-length}
 use Rattle.chain_file.specs.Format.{fields-refusal, rows-refusal, stage-row-refusal}
-use Rattle.chain_file.proofs.Firsts.{no-row-stands}
 
 -- the first k stages, with the messages between them
 abbrev pub said-upto : Head → (rest : List ℕ) → ℕ → Contents
 said-upto h rest k = said (record { name = h .name; period = h .period; deadline = h .deadline; stages = k }) rest
 
--- where neither of two conditions stands
-two-pass : (a b : Option Described) → first-of (a ∷ b ∷ []) ≡ None → (a ≡ None) × (b ≡ None)
-two-pass (Some x) b e = let z : _≡_ {A = ℕ} 0 1 = cc in absurd (omega arith)
-two-pass None (Some x) e = let z : _≡_ {A = ℕ} 0 1 = cc in absurd (omega arith)
-two-pass None None e = (refl, refl)
-
 module _ (h : Head) (rest : List ℕ) (checked : fields-refusal h rest ≡ None) where
+  rows-pass : rows-refusal (h .stages) rest ≡ None
+  rows-pass =
+      none-first (rows-refusal (h .stages) rest) [] (none-first (start-refusal (h .name) (h .period) (h .deadline)) (rows-refusal (h .stages) rest ∷ []) checked .1) .0
+
   row-passes : (k : ℕ) → k < h .stages → stage-row-refusal (h .stages) rest k ≡ None
   row-passes k inside =
-      no-row-stands (stage-row-refusal (h .stages) rest) (h .stages) k
-      (two-pass (start-refusal (h .name) (h .period) (h .deadline)) (rows-refusal (h .stages) rest) checked .1) inside
+      let here : k ≡ getD (counting 0 (h .stages)) k k = omega (arith, getD-counting 0 (h .stages) k k inside) in
+      ap (stage-row-refusal (h .stages) rest) here
+      ∙ none-stands (stage-row-refusal (h .stages) rest) (counting 0 (h .stages)) k k rows-pass (omega (arith, length-counting 0 (h .stages)))
 
   pub stage-passes : (k : ℕ) → k < h .stages → stage-refusal most-boards (pin rest k) (stage-length rest k) ≡ None
-  stage-passes k inside = two-pass (stage-refusal most-boards (pin rest k) (stage-length rest k)) _ (row-passes k inside) .0
+  stage-passes k inside = none-first (stage-refusal most-boards (pin rest k) (stage-length rest k)) _ (row-passes k inside) .0
 
   pub message-passes : (k : ℕ) → k + 1 < h .stages → length-refusal (message-length rest k) ≡ None
   message-passes k inside =
+      let message = cond (ltb (k + 1) (h .stages)) (length-refusal (message-length rest k)) None in
       sym (ap (λ b. cond b (length-refusal (message-length rest k)) None) (lt-ltb (k + 1) (h .stages) inside))
-      ∙ two-pass (stage-refusal most-boards (pin rest k) (stage-length rest k)) (cond (ltb (k + 1) (h .stages)) (length-refusal (message-length rest k)) None) (row-passes k (omega arith)) .1
+      ∙ none-first message [] (none-first (stage-refusal most-boards (pin rest k) (stage-length rest k)) (message ∷ []) (row-passes k (omega arith)) .1) .0
 
 pub message-fits : (most stages l : ℕ) → stages < most → length-refusal l ≡ None → message-refusal most stages l ≡ None
 message-fits most stages l few none = grind (arith, tells)

@@ -87,3 +87,27 @@ unless-refused (Some why) bs = refused why
 abbrev pub next : (read : ℕ) → List ℕ → Next
 next read [] = the-end
 next read (b ∷ bs) = unless-refused (record-refusal read (b ∷ bs)) (b ∷ bs)
+
+-- What the records of a file hold: the chains up to its end or up to the first refusal, and that
+-- refusal with the record where it came, records counting from 1.
+pub record Stop : Type 0 where
+  pub at : ℕ
+  pub why : Described
+
+pub record Held : Type 0 where
+  pub chains : List Contents
+  pub stop : Option Stop
+
+abbrev pub held-by : (read : ℕ) → Next → (List ℕ → Held) → Held
+held-by read the-end later = record { chains = []; stop = None }
+held-by read (refused why) later = record { chains = []; stop = Some (record { at = read + 1; why = why }) }
+held-by read (chain c bs) later = record { chains = c ∷ later bs .chains; stop = later bs .stop }
+
+-- `steps` bounds the looks at what comes next. With sixteen records read comes the end or a
+-- refusal, so seventeen looks are enough.
+unfoldable pub records : (steps read : ℕ) → List ℕ → Held
+records zero read bs = record { chains = []; stop = None }
+records (suc steps) read bs = held-by read (next read bs) (records steps (read + 1))
+
+abbrev pub held : List ℕ → Held
+held bs = records (most-chains + 1) 0 bs

@@ -1,0 +1,73 @@
+// The first allowed placement of a chain.
+ghost use mathlib.Core.Path.{_≡_};
+ghost use Rattle.std.specs.Of.Vec.{vec-items};
+ghost use Rattle.std.specs.Options.{mapped};
+ghost use Rattle.std.specs.Vec.{made};
+ghost use Rattle.chain.specs.Drafting.{contents};
+ghost use Rattle.planner.specs.Placement.{described, first-board, first-boards, pin-refusal, placement-refusal};
+use chain::stages::Pin;
+use chain::stages::Stage;
+use chain_file::fields::FileChain;
+use std::alloc::AllocError;
+use std::alloc::Global;
+
+// Why a chain has no allowed placement.
+#[derive(Clone, Copy, Debug, PartialEq, Eq)]
+pub enum PinRefusal {
+    PinAbove { pin: u8 },
+}
+
+impl PinRefusal {
+    // The refusal's number in the table of refusals.
+    pub fn number(&self) -> u8
+        ensures { λ r. ⌜ r ≡ described (now (self .entry)) .number ⌝ }
+    {
+        match self {
+            PinRefusal::PinAbove { .. } => 9,
+        }
+    }
+}
+
+// What is wrong with a stage's pin on boards 1 to `boards`, if anything.
+fn check_pin(boards: u8, stage: Stage) -> Option<PinRefusal>
+    ensures { λ r. ⌜ mapped described r ≡ pin-refusal boards stage ⌝ }
+{
+    match stage.pin {
+        Pin::Board(pin) if pin > boards => Some(PinRefusal::PinAbove { pin }),
+        _ => None,
+    }
+}
+
+// What is wrong with a chain's pins, if anything.
+pub fn check_pins(boards: u8, chain: &FileChain) -> Option<PinRefusal>
+    ensures { λ r. ⌜ mapped described r ≡ placement-refusal boards (contents (now (chain .entry))) ⌝ }
+{
+    for stage in chain.stages.iter() {
+        let why = check_pin(boards, *stage);
+        if why.is_some() {
+            return why;
+        }
+    }
+    None
+}
+
+// The board of a stage in the first placement.
+fn first_board(pin: Pin) -> u8
+    ensures { λ r. ⌜ r ≡ first-board pin ⌝ }
+{
+    match pin {
+        Pin::Free => 1,
+        Pin::Board(board) => board,
+    }
+}
+
+// The first placement, stage by stage.
+pub fn first_boards(heap: Global, chain: &FileChain) -> Result<Vec<u8>, AllocError>
+    ensures { λ r. ⌜ made r (λ v. vec-items v ≡ first-boards (contents (now (chain .entry)))) ⌝ }
+{
+    let mut boards = Vec::new(heap);
+    for stage in chain.stages.iter() {
+        boards.push(first_board(stage.pin))?;
+    }
+    Ok(boards)
+}
