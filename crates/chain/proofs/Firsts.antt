@@ -29,10 +29,10 @@ module _ {X : Type 0} (condition : X → Option Described) (xs : List X) where
   pub left-all : (k : ℕ) → length xs ≤ k → left k ≡ None
   left-all k h = at-drop-all (λ ys. first-of (map condition ys)) xs k h
 
-  module _ (k : ℕ) (x : X) (inside : k < length xs) (is : x ≡ getD xs k x) where
+  module _ (k : ℕ) (x d : X) (inside : k < length xs) (is : x ≡ getD xs k d) where
     step : left k ≡ first-of (condition x ∷ map condition (drop (k + 1) xs))
     step =
-        at-drop-more (λ ys. first-of (map condition ys)) xs k x inside
+        at-drop-more (λ ys. first-of (map condition ys)) xs k d inside
         ∙ ap (λ y. first-of (condition y ∷ map condition (drop (k + 1) xs))) (sym is)
 
     module _ {R : Type 0} (described : R → Described) (why : Option R) (checked : mapped described why ≡ condition x) where

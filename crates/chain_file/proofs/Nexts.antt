@@ -1,7 +1,7 @@
 -- What comes next in a file, from what is wrong with a record's bounds and with its body.
 use mathlib.Core.Path.{_≡_, refl, _∙_, ap}
 use mathlib.Core.List.{List, [], _∷_}
-use Prim.Native.Nat.{ℕ, _<_}
+use Prim.Native.Nat.{ℕ, suc, _+_, _<_}
 use native.Mathlib.Omega.{arith}
 use lib.Dec.{eqb}
 use lib.ListN.{length}
@@ -10,11 +10,13 @@ use Rattle.std.proofs.shelf.Ways.{tells}
 use Rattle.std.specs.declared.option.Option.{Option}
 use Rattle.std.specs.declared.option.Option.the-variants.{Some, None}
 use Rattle.std.specs.declared.result.Result.the-variants.{Err}
+use Rattle.chain.proofs.Firsts.{none-first}
+use Rattle.chain.specs.Drafting.{Contents}
 use Rattle.chain.specs.Refusals.{Described, first-of, numbered, unless}
 use Rattle.chain_file.specs.declared.readers.ReadError.{ReadError}
 use Rattle.chain_file.specs.declared.readers.ReadError.the-variants.{Refused, NoMemory}
 use Rattle.chain_file.specs.Fields.{head, rest, said}
-use Rattle.chain_file.specs.Format.{Next, after-record, body, body-refusal, body-size, cut-refusal, fields-refusal, most-chains, next, record-refusal, unless-refused}
+use Rattle.chain_file.specs.Format.{after-record, body, body-refusal, body-size, chain, cut-refusal, fields-refusal, held-by, most-chains, next, record-refusal, records, unless-refused}
 use Rattle.chain_file.specs.Reading.{Records, Tells}
 
 second : (a b : Option Described) → a ≡ None → first-of (a ∷ b ∷ []) ≡ b
@@ -48,3 +50,18 @@ body-by-fields bs right =
 pub body-error : (read : ℕ) (bs : List ℕ) (e : ReadError) → 0 < length bs → cut-refusal read bs ≡ None → Tells read (body bs) (Err e) → Records read bs (Err e)
 body-error read bs (Refused r) some right told = (next-by-body read bs some right ∙ ap (λ o. unless-refused o bs) (told .0), told .1)
 body-error read bs NoMemory some right told = (said (head (body bs)) (rest (body bs)), after-record bs, next-by-body read bs some right ∙ ap (λ o. unless-refused o bs) told)
+
+-- a chain comes next only where nothing is refused, so where sixteen have not been read
+chain-unrefused : (o : Option Described) (bs later : List ℕ) (c : Contents) → unless-refused o bs ≡ chain c later → o ≡ None
+chain-unrefused None bs later c is = refl
+chain-unrefused (Some w) bs later c is = let z : _≡_ {A = ℕ} 0 1 = cc in absurd (omega arith)
+
+pub next-room : (read : ℕ) (bs later : List ℕ) (c : Contents) → next read bs ≡ chain c later → read < most-chains
+next-room read [] later c is = let z : _≡_ {A = ℕ} 0 1 = cc in absurd (omega arith)
+next-room read (b ∷ bs) later c is =
+    cut-room read (b ∷ bs) (none-first (cut-refusal read (b ∷ bs)) (body-refusal (body (b ∷ bs)) ∷ []) (chain-unrefused (record-refusal read (b ∷ bs)) (b ∷ bs) later c is) .0)
+
+-- one look at what comes next
+pub records-step : (steps read : ℕ) (bs : List ℕ) → records (suc steps) read bs ≡ held-by read (next read bs) (records steps (read + 1))
+unfolding records
+records-step steps read bs = refl

@@ -8,7 +8,6 @@ use Rattle.std.specs.declared.option.Option.{Option}
 use Rattle.chain.specs.declared.stages.Pin.{Pin}
 use Rattle.chain.specs.declared.stages.Pin.the-variants.{Free, Board}
 use Rattle.chain.specs.declared.stages.Stage.{Stage}
-use Rattle.chain.specs.Drafting.{Contents}
 use Rattle.chain.specs.Refusals.{Described, first-of, numbered, unless}
 use Rattle.planner.specs.declared.placement.PinRefusal.{PinRefusal}
 use Rattle.planner.specs.declared.placement.PinRefusal.the-variants.{PinAbove}
@@ -21,8 +20,8 @@ abbrev pub first-board : Pin → ℕ
 first-board Free = 1
 first-board (Board b) = b
 
-abbrev pub first-boards : Contents → List ℕ
-first-boards c = map (λ (s : Stage). first-board (s .pin)) (c .stages)
+abbrev pub first-boards : List Stage → List ℕ
+first-boards stages = map (λ (s : Stage). first-board (s .pin)) stages
 
 -- a pin above the board count, at the first stage that has one
 abbrev pub pin-within : (boards : ℕ) → Pin → Bool
@@ -32,5 +31,5 @@ pin-within boards (Board b) = leb b boards
 abbrev pub pin-refusal : (boards : ℕ) → Stage → Option Described
 pin-refusal boards s = unless (pin-within boards (s .pin)) (numbered 9 (first-board (s .pin) ∷ []))
 
-abbrev pub placement-refusal : (boards : ℕ) → Contents → Option Described
-placement-refusal boards c = first-of (map (pin-refusal boards) (c .stages))
+abbrev pub placement-refusal : (boards : ℕ) → List Stage → Option Described
+placement-refusal boards stages = first-of (map (pin-refusal boards) stages)

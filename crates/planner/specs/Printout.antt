@@ -1,7 +1,9 @@
 -- Every byte of the print-out.
-use mathlib.Core.Bool.{cond}
+use mathlib.Core.Path.{_≡_}
+use mathlib.Core.Bool.{Bool, true, false, cond}
 use mathlib.Core.List.{List, [], _∷_, _++_}
-use Prim.Native.Nat.{ℕ}
+use Prim.Native.Nat.{ℕ, _+_, _-_, _≤_}
+use denote.Ref.{now}
 use lib.Chars.{codes}
 use lib.Dec.{leb}
 use lib.ListN.{drop, getD}
@@ -14,7 +16,8 @@ use Rattle.chain.specs.Drafting.{Contents}
 use Rattle.chain.specs.Parts.{parts, total}
 use Rattle.chain.specs.Refusals.{Described}
 use Rattle.chain.specs.Windows.{windows}
-use Rattle.chain_file.specs.Format.{Held, Stop, header-refusal, held}
+use Rattle.chain_file.specs.declared.readers.Reader.{Reader}
+use Rattle.chain_file.specs.Format.{Held, Stop, header-refusal, held, most-chains, records}
 use Rattle.planner.specs.Placement.{first-boards, placement-refusal}
 
 abbrev pub newline : List ℕ
@@ -32,10 +35,10 @@ placed-text c boards = cond (leb (total (parts c boards)) (c .deadline)) (window
 
 abbrev pub answer-text : Option Described → Contents → List ℕ
 answer-text (Some why) c = codes " refused " ++ decimal (why .number)
-answer-text None c = placed-text c (first-boards c)
+answer-text None c = placed-text c (first-boards (c .stages))
 
 abbrev pub chain-line : (boards : ℕ) → Contents → List ℕ
-chain-line boards c = codes "chain " ++ (decimal (c .name) ++ (answer-text (placement-refusal boards c) c ++ newline))
+chain-line boards c = codes "chain " ++ (decimal (c .name) ++ (answer-text (placement-refusal boards (c .stages)) c ++ newline))
 
 abbrev pub refusal-line : Stop → List ℕ
 refusal-line s = codes "file refused " ++ (decimal (s .why .number) ++ (codes " record " ++ (decimal (s .at) ++ newline)))
@@ -46,6 +49,16 @@ stop-text (Some s) = refusal-line s
 
 abbrev pub records-text : (boards : ℕ) → Held → List ℕ
 records-text boards h = joined (chain-line boards) (h .chains) ++ stop-text (h .stop)
+
+-- what a reader has still to give
+abbrev pub reader-text : Reader → List ℕ
+reader-text r = records-text (r .boards) (records (most-chains + 1 - r .read) (r .read) (now (r .rest)))
+
+-- One turn of printing, `was` and `is` being the text and `r` and `s` the reader before and after
+-- it: with a chain's line, the rest is still to come; without, that was all.
+abbrev pub Turns : (was is : List ℕ) (r s : Reader) → Bool → Type 0
+Turns was is r s true = (is ++ reader-text s ≡ was ++ reader-text r) × (s .read ≡ r .read + 1) × (s .read ≤ most-chains)
+Turns was is r s false = is ≡ was ++ reader-text r
 
 abbrev pub boards-line : ℕ → List ℕ
 boards-line boards = codes "boards " ++ (decimal boards ++ newline)

@@ -3,11 +3,9 @@ ghost use mathlib.Core.Path.{_≡_};
 ghost use Rattle.std.specs.Of.Vec.{vec-items};
 ghost use Rattle.std.specs.Options.{mapped};
 ghost use Rattle.std.specs.Vec.{made};
-ghost use Rattle.chain.specs.Drafting.{contents};
 ghost use Rattle.planner.specs.Placement.{described, first-board, first-boards, pin-refusal, placement-refusal};
 use chain::stages::Pin;
 use chain::stages::Stage;
-use chain_file::fields::FileChain;
 use std::alloc::AllocError;
 use std::alloc::Global;
 
@@ -38,11 +36,11 @@ fn check_pin(boards: u8, stage: Stage) -> Option<PinRefusal>
     }
 }
 
-// What is wrong with a chain's pins, if anything.
-pub fn check_pins(boards: u8, chain: &FileChain) -> Option<PinRefusal>
-    ensures { λ r. ⌜ mapped described r ≡ placement-refusal boards (contents (now (chain .entry))) ⌝ }
+// What is wrong with the pins of a chain's stages, if anything.
+pub fn check_pins(boards: u8, stages: &[Stage]) -> Option<PinRefusal>
+    ensures { λ r. ⌜ mapped described r ≡ placement-refusal boards (now (stages .entry)) ⌝ }
 {
-    for stage in chain.stages.iter() {
+    for stage in stages {
         let why = check_pin(boards, *stage);
         if why.is_some() {
             return why;
@@ -62,11 +60,11 @@ fn first_board(pin: Pin) -> u8
 }
 
 // The first placement, stage by stage.
-pub fn first_boards(heap: Global, chain: &FileChain) -> Result<Vec<u8>, AllocError>
-    ensures { λ r. ⌜ made r (λ v. vec-items v ≡ first-boards (contents (now (chain .entry)))) ⌝ }
+pub fn first_boards(heap: Global, stages: &[Stage]) -> Result<Vec<u8>, AllocError>
+    ensures { λ r. ⌜ made r (λ v. vec-items v ≡ first-boards (now (stages .entry))) ⌝ }
 {
     let mut boards = Vec::new(heap);
-    for stage in chain.stages.iter() {
+    for stage in stages {
         boards.push(first_board(stage.pin))?;
     }
     Ok(boards)

@@ -11,14 +11,14 @@ pub returns-then-is-some : need.returns-then-is-some
 returns-then-is-some c =
     let n = c .args .n in
     let k = c .loop-k .k in
-    left-stands (stage-row-refusal n (c .args .rest .now)) (counting 0 n) k k (omega (arith, length-counting 0 n)) (omega (arith, getD-counting 0 n k k (c .loop-k-test .taken))) described (c .check-row-why .result) (c .check-row-why .ensures) (sym (c .if-is-some .ensures tt))
+    left-stands (stage-row-refusal n (c .args .rest .now)) (counting 0 n) k k k (omega (arith, length-counting 0 n)) (omega (arith, getD-counting 0 n k k (c .loop-k-test .taken))) described (c .check-row-why .result) (c .check-row-why .ensures) (sym (c .if-is-some .ensures tt))
     ∙ c .loop-k .inv
 
 pub loop-k-again : need.loop-k-again
 loop-k-again c =
     let n = c .args .n in
     let k = c .loop-k .k in
-    left-passed (stage-row-refusal n (c .args .rest .now)) (counting 0 n) k k (omega (arith, length-counting 0 n)) (omega (arith, getD-counting 0 n k k (c .loop-k-test .taken))) described (c .check-row-why .result) (c .check-row-why .ensures) (sym (c .if-is-some .ensures tt))
+    left-passed (stage-row-refusal n (c .args .rest .now)) (counting 0 n) k k k (omega (arith, length-counting 0 n)) (omega (arith, getD-counting 0 n k k (c .loop-k-test .taken))) described (c .check-row-why .result) (c .check-row-why .ensures) (sym (c .if-is-some .ensures tt))
     ∙ c .loop-k .inv
 
 pub returns : need.returns

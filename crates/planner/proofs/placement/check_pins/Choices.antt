@@ -1,9 +1,7 @@
 use mathlib.Core.Path.{_≡_}
-use Rattle.std.specs.Of.Vec.{vec-items}
 use Rattle.chain.proofs.Firsts.{left}
-use Rattle.chain.specs.Drafting.{contents}
 use Rattle.planner.specs.Placement.{pin-refusal, placement-refusal}
 use Rattle.planner.proofs.placement.check_pins.Given as given
 
 abbrev pub Inv-loop-stage : given.InvT-loop-stage
-Inv-loop-stage l = left (pin-refusal (l .boards)) (vec-items (l .chain .stages)) (l .stage-index) ≡ placement-refusal (l .boards) (contents (l .chain))
+Inv-loop-stage l = left (pin-refusal (l .boards)) (l .stages) (l .stage-index) ≡ placement-refusal (l .boards) (l .stages)
