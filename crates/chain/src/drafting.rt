@@ -163,12 +163,11 @@ impl<const S: usize, const B: u8> AwaitingMessage<S, B> {
     pub fn finish(self) -> Chain<S, B>
         ensures { λ r. ⌜ contents r ≡ staged (self .entry) ⌝ }
     {
+        let (name, period, deadline) = (self.name, self.period, self.deadline);
         let AwaitingMessage {
-            name,
-            period,
-            deadline,
             stages,
             messages,
+            ..
         } = self;
         Chain {
             name,

@@ -2,6 +2,8 @@
 // it. The text is made by a call whose contract gives every byte; main reads, calls and prints.
 mod placement;
 mod printout;
+#[cfg(test)]
+mod tests;
 
 use printout::report;
 use std::error::AnyError;
