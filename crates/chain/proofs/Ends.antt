@@ -14,6 +14,9 @@ end-at-start d s = ap (λ n. n / s) (mul-zero d) ∙ zero-div s
 pub end-at-last : (deadline sum : ℕ) → 1 ≤ sum → end deadline sum sum ≡ deadline
 end-at-last d s some = mul-div-cancel d some
 
+pub end-rises : (deadline sum before after : ℕ) → 1 ≤ sum → before ≤ after → end deadline sum before ≤ end deadline sum after
+end-rises d s b a some on = le-div-iff-mul-le some .1 (omega (arith, div-mul-le-self (d * b) s, mul-le-mul-left d on))
+
 -- where the work fits the deadline, a part's window holds the part
 pub ends-apart : (deadline sum before length : ℕ) → 1 ≤ sum → sum ≤ deadline → end deadline sum before + length ≤ end deadline sum (before + length)
 ends-apart d s b c some fits =

@@ -1,7 +1,8 @@
 // The windows of a chain's parts once each stage has a board.
 ghost use mathlib.Core.List.{[], _∷_, _++_};
 ghost use mathlib.Core.Path.{_≡_};
-ghost use Prim.Native.Nat.{_+_, _^_, _≤_, _<_};
+ghost use Prim.Native.Nat.{_+_, _-_, _^_, _≤_, _<_};
+ghost use lib.Dec.{ltb};
 ghost use lib.ListN.{getD};
 ghost use Rattle.std.specs.Of.Vec.{vec-cap, vec-items, vec-len};
 ghost use Rattle.std.specs.Vec.{listOf, made};
@@ -60,6 +61,24 @@ fn end_of(deadline: u32, sum: u32, upto: u32) -> u32
     (u64::from(deadline) * u64::from(upto) / u64::from(sum)) as u32
 }
 
+// The window of a part: from its end back to the end before, where `before` ticks of work were
+// done.
+fn window_of(deadline: u32, sum: u32, before: u32, after: u32) -> u32
+    requires some { ⌜ 1 ≤ sum ⌝ }
+    requires rises { ⌜ before ≤ after ⌝ }
+    requires within { ⌜ after ≤ sum ⌝ }
+    ensures { λ r. ⌜ r ≡ end deadline sum after - end deadline sum before ⌝ }
+{
+    end_of(deadline, sum, after) - end_of(deadline, sum, before)
+}
+
+// Whether the work so far is more than the deadline leaves time for.
+fn is_past(deadline: u32, upto: u64) -> bool
+    ensures { λ r. ⌜ r ≡ ltb deadline upto ⌝ }
+{
+    upto > u64::from(deadline)
+}
+
 // The length of a part, where there is one.
 fn length_of(part: Option<Part>) -> u32
     ensures { λ r. ⌜ r ≡ total (listOf part) ⌝ }
@@ -78,7 +97,7 @@ fn total_within<const S: usize, const B: u8>(chain: &Chain<S, B>, boards: &[u8])
     for k in 0..chain.stages.len() {
         let message = message_after(chain, boards, k);
         upto += u64::from(chain.stages[k].length) + u64::from(length_of(message));
-        if upto > u64::from(chain.deadline) {
+        if is_past(chain.deadline, upto) {
             return None;
         }
     }
@@ -89,7 +108,6 @@ fn total_within<const S: usize, const B: u8>(chain: &Chain<S, B>, boards: &[u8])
 // Answers the work done after it.
 fn put(row: &mut Vec<Windowed>, deadline: u32, sum: u32, before: u32, part: Option<Part>) -> u32
     requires some { ⌜ 1 ≤ sum ⌝ }
-    requires fits { ⌜ sum ≤ deadline ⌝ }
     requires within { ⌜ before + total (listOf part) ≤ sum ⌝ }
     requires room { ⌜ vec-len (now row) < vec-cap (now row) ⌝ }
     ensures after { λ r. ⌜ r ≡ before + total (listOf part) ⌝ }
@@ -101,7 +119,7 @@ fn put(row: &mut Vec<Windowed>, deadline: u32, sum: u32, before: u32, part: Opti
         return before;
     };
     let after = before + part.length;
-    let window = end_of(deadline, sum, after) - end_of(deadline, sum, before);
+    let window = window_of(deadline, sum, before, after);
     row.push_reserved(Windowed { part, window });
     after
 }

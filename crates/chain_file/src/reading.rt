@@ -104,7 +104,7 @@ fn read_record(heap: Global, read: u8, bytes: &[u8]) -> Result<(FileChain, &[u8]
 fn check_header(bytes: &[u8]) -> Option<FileRefusal>
     ensures { λ r. ⌜ mapped described r ≡ header-refusal (now (bytes .entry)) ⌝ }
 {
-    if bytes.len() < 1 {
+    if bytes.is_empty() {
         return Some(FileRefusal::TooShort);
     }
     if bytes[0] != VERSION {

@@ -25,7 +25,6 @@ work g c =
 pub put-before-requires : need.put-before-requires
 put-before-requires g c κs = record {
   some = c .pre .some;
-  fits = c .pre .fits;
   within = omega (arith, work g (need.at·put-before-requires g c .After-message-after-message));
   room = omega (arith, c .loop-k .inv .2, c .loop-k .inv .3, c .pre .room);
 }
@@ -33,7 +32,6 @@ put-before-requires g c κs = record {
 pub put-before-requires-in-loop-k : need.put-before-requires-in-loop-k
 put-before-requires-in-loop-k g c κs = record {
   some = c .pre .some;
-  fits = c .pre .fits;
   within = omega (arith, work g (need.at·put-before-requires-in-loop-k g c .After-message-after-message), ap total (c .message-after-message .ensures), c .put-before .ensures .after);
   room = omega (arith, c .loop-k .inv .2, c .loop-k .inv .3, c .pre .room, c .put-before .ensures .len, c .put-before .ensures .capacity);
 }

@@ -1,7 +1,8 @@
-use mathlib.Core.Path.{_≡_, ap}
+use mathlib.Core.Path.{_≡_, ap, sym}
 use Prim.Native.Nat.{_+_, _<_}
 use native.Mathlib.Omega.{arith}
 use lib.ListN.{length}
+use Rattle.std.proofs.shelf.Tests.{ltb-false, ltb-true}
 use Rattle.std.specs.Of.Vec.{vec-items}
 use Rattle.chain.specs.Drafting.{contents}
 use Rattle.chain.specs.Parts.{parts, total}
@@ -9,10 +10,10 @@ use Rattle.chain.proofs.Filling.{some-work}
 use Rattle.chain.proofs.PartSteps.{left-at, nothing-left, total-step}
 use Rattle.chain.proofs.windows.total_within.Given as given
 use Rattle.chain.proofs.windows.total_within.Needs as need
-use Rattle.chain.proofs.windows.total_within.Needs.{After-from-in-loop-k-2}
+use Rattle.chain.proofs.windows.total_within.Needs.{After-is-past}
 
 -- one turn adds the lengths of a stage and of its message
-turn : (g : given.Over) (c : After-from-in-loop-k-2 g) → c .loop-k .upto + (c .from .result + c .from-in-loop-k .result) + total (left-at (vec-items (c .args .chain .now .messages)) (c .args .boards .now) (vec-items (c .args .chain .now .stages)) (c .loop-k .k + 1)) ≡ total (parts (contents (c .args .chain .now)) (c .args .boards .now))
+turn : (g : given.Over) (c : After-is-past g) → c .loop-k .upto + (c .from .result + c .from-in-loop-k .result) + total (left-at (vec-items (c .args .chain .now .messages)) (c .args .boards .now) (vec-items (c .args .chain .now .stages)) (c .loop-k .k + 1)) ≡ total (parts (contents (c .args .chain .now)) (c .args .boards .now))
 turn g c =
     let inside : c .loop-k .k < length (vec-items (c .args .chain .now .stages)) = omega (arith, c .args .chain .now .stages .ok .0) in
     omega (
@@ -21,11 +22,11 @@ turn g c =
       ap total (c .message-after-message .ensures),
     )
 
-pub returns-then-upto-from : need.returns-then-upto-from
-returns-then-upto-from g c = omega (arith, turn g (need.at·returns-then-upto-from g c .After-from-in-loop-k-2))
+pub returns-then-is-past : need.returns-then-is-past
+returns-then-is-past g c = omega (arith, turn g (need.at·returns-then-is-past g c .After-is-past), ltb-true _ _ (sym (c .if-is-past .ensures tt)))
 
 pub loop-k-again : need.loop-k-again
-loop-k-again g c = (omega arith, turn g (need.at·loop-k-again g c .After-from-in-loop-k-2))
+loop-k-again g c = (ltb-false _ _ (sym (c .if-is-past .ensures tt)), turn g (need.at·loop-k-again g c .After-is-past))
 
 pub returns : need.returns
 returns g c =
