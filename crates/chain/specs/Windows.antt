@@ -3,6 +3,7 @@
 use mathlib.Core.Path.{_≡_}
 use mathlib.Core.List.{List, [], _∷_}
 use Prim.Native.Nat.{ℕ, _+_, _-_, _*_, _/_, _≤_, _<_}
+use lib.ListN.{take}
 use Rattle.std.specs.Of.Vec.{vec-items}
 use Rattle.std.specs.shelf.Lists.{All, sumBy}
 use Rattle.std.specs.declared.option.Option.{Option}
@@ -37,10 +38,19 @@ windowed deadline sum before (p ∷ ps) =
 abbrev pub windows : Contents → (boards : List ℕ) → List Windowed
 windows c boards = windowed (c .deadline) (total (parts c boards)) 0 (parts c boards)
 
--- What an engineer asks of windows: they fill the time to the deadline exactly, and each holds
--- its part.
+-- the work of parts with windows, and their time
+abbrev pub work : List Windowed → ℕ
+work ws = sumBy (λ (w : Windowed). w .part .length) ws
+
+abbrev pub time : List Windowed → ℕ
+time ws = sumBy (λ (w : Windowed). w .window) ws
+
+-- What an engineer asks of windows: whatever parts have passed, the time is that of the deadline
+-- in proportion to their work, rounded down; all windows together fill the deadline exactly; and
+-- each holds its part.
 pub record Fill (deadline : ℕ) (ws : List Windowed) : Type 0 where
-  pub whole : sumBy (λ (w : Windowed). w .window) ws ≡ deadline
+  pub ends : (k : ℕ) → time (take k ws) ≡ end deadline (work ws) (work (take k ws))
+  pub whole : time ws ≡ deadline
   pub each : All (λ (w : Windowed). (w .part .length ≤ w .window) × (w .window ≤ deadline)) ws
 
 -- The answer of placing a chain: too long exactly where the parts exceed the deadline, and then

@@ -2,9 +2,10 @@
 ghost use mathlib.Core.Bool.{true};
 ghost use mathlib.Core.Path.{_≡_};
 ghost use Prim.Native.Nat.{_+_, _<_};
+ghost use lib.Dec.{ltb};
 ghost use lib.ListN.{length};
 ghost use Rattle.std.specs.Options.{mapped};
-ghost use Rattle.chain_file.specs.Format.{body-size, header-refusal, size-kept};
+ghost use Rattle.chain_file.specs.Format.{body-size, header-refusal, most-chains, size-kept};
 ghost use Rattle.chain_file.specs.Reading.{Cuts, Opens, Reads, Records, Tells};
 ghost use Rattle.chain_file.specs.Refusals.{described};
 use super::fields::FileChain;
@@ -40,6 +41,13 @@ fn is_body_size(size: usize) -> bool
     size % 9 == 7 && body_size(1) <= size && size <= body_size(STAGES)
 }
 
+// Whether one record more may be read.
+fn has_room(read: u8) -> bool
+    ensures { λ r. ⌜ r ≡ ltb read most-chains ⌝ }
+{
+    read < MOST_CHAINS
+}
+
 // A refusal of the record after `read` others.
 fn refuse(read: u8, why: FileRefusal) -> ReadError
     ensures { λ r. ⌜ r ≡ ReadError.Refused (record { at = read + 1; why = why }) ⌝ }
@@ -52,7 +60,7 @@ fn refuse(read: u8, why: FileRefusal) -> ReadError
 fn cut(read: u8, bytes: &[u8]) -> Result<(&[u8], &[u8]), ReadError>
     ensures { λ r. ⌜ Cuts read (now (bytes .entry)) r ⌝ }
 {
-    if read >= MOST_CHAINS {
+    if !has_room(read) {
         return Err(refuse(read, FileRefusal::TooManyChains));
     }
     let [high, low, rest @ ..] = bytes else {

@@ -37,7 +37,7 @@ fn check_pin(boards: u8, stage: Stage) -> Option<PinRefusal>
 }
 
 // What is wrong with the pins of a chain's stages, if anything.
-pub fn check_pins(boards: u8, stages: &[Stage]) -> Option<PinRefusal>
+pub(super) fn check_pins(boards: u8, stages: &[Stage]) -> Option<PinRefusal>
     ensures { λ r. ⌜ mapped described r ≡ placement-refusal boards (now (stages .entry)) ⌝ }
 {
     for stage in stages {
@@ -60,7 +60,7 @@ fn first_board(pin: Pin) -> u8
 }
 
 // The first placement, stage by stage.
-pub fn first_boards(heap: Global, stages: &[Stage]) -> Result<Vec<u8>, AllocError>
+pub(super) fn first_boards(heap: Global, stages: &[Stage]) -> Result<Vec<u8>, AllocError>
     ensures { λ r. ⌜ made r (λ v. vec-items v ≡ first-boards (now (stages .entry))) ⌝ }
 {
     let mut boards = Vec::new(heap);
