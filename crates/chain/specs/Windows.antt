@@ -6,8 +6,6 @@ use Prim.Native.Nat.{ℕ, _+_, _-_, _*_, _/_, _≤_, _<_}
 use lib.ListN.{take}
 use Rattle.std.specs.Of.Vec.{vec-items}
 use Rattle.std.specs.shelf.Lists.{All, sumBy}
-use Rattle.std.specs.declared.option.Option.{Option}
-use Rattle.std.specs.declared.option.Option.the-variants.{Some, None}
 use Rattle.std.specs.declared.result.Result.{Result}
 use Rattle.std.specs.declared.result.Result.the-variants.{Ok, Err}
 use Rattle.chain.specs.declared.parts.Part.{Part}
@@ -16,12 +14,6 @@ use Rattle.chain.specs.declared.parts.TooLong.{TooLong}
 use Rattle.chain.specs.declared.parts.Windowed.{Windowed}
 use Rattle.chain.specs.Drafting.{Contents}
 use Rattle.chain.specs.Parts.{parts, total}
-
--- A sum of lengths, answered where it is within the deadline. It is never 0, since a chain has a
--- stage and every stage a length.
-abbrev pub Within : (deadline sum : ℕ) → Option ℕ → Type 0
-Within deadline sum (Some s) = (s ≡ sum) × (1 ≤ s) × (s ≤ deadline)
-Within deadline sum None = deadline < sum
 
 -- The end of a part, counted from the chain's release: of all `sum` ticks of work, `upto` are
 -- done when the part ends.
@@ -55,7 +47,7 @@ pub record Fill (deadline : ℕ) (ws : List Windowed) : Type 0 where
 
 -- The answer of placing a chain: too long exactly where the parts exceed the deadline, and then
 -- the row is as it was.
-abbrev pub Places : {S : ℕ} → Contents → (boards : List ℕ) → (was now : PartRow S) → Result (Unit {0}) TooLong → Type 0
+abbrev pub Places : {S : ℕ} → Contents → (boards : List ℕ) → (was is : PartRow S) → Result (Unit {0}) TooLong → Type 0
 Places c boards was is (Ok u) =
     (total (parts c boards) ≤ c .deadline) × (vec-items (is .parts) ≡ windows c boards) × Fill (c .deadline) (vec-items (is .parts))
 Places c boards was is (Err e) = (c .deadline < total (parts c boards)) × (is ≡ was)

@@ -17,7 +17,7 @@ use Rattle.chain_file.specs.declared.readers.ReadError.{ReadError}
 use Rattle.chain_file.specs.declared.readers.ReadError.the-variants.{Refused, NoMemory}
 use Rattle.chain_file.specs.Fields.{head, rest, said}
 use Rattle.chain_file.specs.Format.{after-record, body, body-refusal, body-size, chain, cut-refusal, fields-refusal, held-by, most-chains, next, record-refusal, records, unless-refused}
-use Rattle.chain_file.specs.Reading.{Records, Tells}
+use Rattle.chain_file.specs.Steps.{Records, Tells}
 
 second : (a b : Option Described) → a ≡ None → first-of (a ∷ b ∷ []) ≡ b
 second None None e = refl

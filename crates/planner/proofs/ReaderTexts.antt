@@ -10,7 +10,8 @@ use Rattle.chain.specs.Refusals.{Described}
 use Rattle.chain_file.proofs.Nexts.{records-step}
 use Rattle.chain_file.specs.declared.readers.Reader.{Reader}
 use Rattle.chain_file.specs.Format.{Held, Next, chain, held-by, most-chains, next, records, refused, the-end}
-use Rattle.planner.specs.Printout.{chain-line, reader-text, records-text, refusal-line, stop-text}
+use Rattle.planner.specs.Printout.{chain-line, records-text, refusal-line, stop-text}
+use Rattle.planner.specs.Steps.{reader-text}
 
 module _ (r : Reader) (few : r .read ≤ most-chains) where
   look : reader-text r ≡ records-text (r .boards) (held-by (r .read) (next (r .read) (now (r .rest))) (records (most-chains - r .read) (r .read + 1)))

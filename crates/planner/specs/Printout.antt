@@ -1,9 +1,7 @@
 -- Every byte of the print-out.
-use mathlib.Core.Path.{_≡_}
-use mathlib.Core.Bool.{Bool, true, false, cond}
+use mathlib.Core.Bool.{cond}
 use mathlib.Core.List.{List, [], _∷_, _++_}
-use Prim.Native.Nat.{ℕ, _+_, _-_, _≤_}
-use denote.Ref.{now}
+use Prim.Native.Nat.{ℕ}
 use lib.Chars.{codes}
 use lib.Dec.{leb}
 use lib.ListN.{drop, getD}
@@ -16,8 +14,7 @@ use Rattle.chain.specs.Drafting.{Contents}
 use Rattle.chain.specs.Parts.{parts, total}
 use Rattle.chain.specs.Refusals.{Described}
 use Rattle.chain.specs.Windows.{windows}
-use Rattle.chain_file.specs.declared.readers.Reader.{Reader}
-use Rattle.chain_file.specs.Format.{Held, Stop, header-refusal, held, most-chains, records}
+use Rattle.chain_file.specs.Format.{Held, Stop, header-refusal, held}
 use Rattle.planner.specs.Placement.{first-boards, placement-refusal}
 
 abbrev pub newline : List ℕ
@@ -49,16 +46,6 @@ stop-text (Some s) = refusal-line s
 
 abbrev pub records-text : (boards : ℕ) → Held → List ℕ
 records-text boards h = joined (chain-line boards) (h .chains) ++ stop-text (h .stop)
-
--- what a reader has still to give
-abbrev pub reader-text : Reader → List ℕ
-reader-text r = records-text (r .boards) (records (most-chains + 1 - r .read) (r .read) (now (r .rest)))
-
--- One turn of printing, `was` and `is` being the text and `r` and `s` the reader before and after
--- it: with a chain's line, the rest is still to come; without, that was all.
-abbrev pub Turns : (was is : List ℕ) (r s : Reader) → Bool → Type 0
-Turns was is r s true = (is ++ reader-text s ≡ was ++ reader-text r) × (s .read ≡ r .read + 1) × (s .read ≤ most-chains)
-Turns was is r s false = is ≡ was ++ reader-text r
 
 abbrev pub boards-line : ℕ → List ℕ
 boards-line boards = codes "boards " ++ (decimal boards ++ newline)

@@ -3,7 +3,7 @@ use Rattle.std.proofs.shelf.Results.{err-from-errBy}
 use Rattle.std.specs.declared.result.Result.the-variants.{Err}
 use Rattle.chain_file.specs.Fields.{head, rest, said}
 use Rattle.chain_file.specs.Format.{body-refusal, chain, unless-refused}
-use Rattle.chain_file.specs.Reading.{Tells}
+use Rattle.chain_file.specs.Steps.{Tells}
 use Rattle.chain_file.proofs.Nexts.{body-error, cut-room, next-by-body}
 use Rattle.chain_file.proofs.reading.read_record.Needs as need
 

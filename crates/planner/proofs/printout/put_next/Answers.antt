@@ -9,7 +9,8 @@ use Rattle.chain.specs.Drafting.{contents}
 use Rattle.chain_file.proofs.Nexts.{next-room}
 use Rattle.chain_file.specs.Format.{chain, next, refused, the-end}
 use Rattle.chain_file.specs.Refusals.{described}
-use Rattle.planner.specs.Printout.{chain-line, reader-text, refusal-line}
+use Rattle.planner.specs.Printout.{chain-line, refusal-line}
+use Rattle.planner.specs.Steps.{reader-text}
 use Rattle.planner.proofs.ReaderTexts.{text-at-chain, text-at-end, text-at-refusal}
 use Rattle.planner.proofs.printout.put_next.Needs as need
 

@@ -3,7 +3,7 @@ use mathlib.Core.List.{_++_}
 use Prim.Native.Nat.{_-_, _≤_}
 use Rattle.std.specs.Of.String.{string-bytes}
 use Rattle.chain_file.specs.Format.{most-chains}
-use Rattle.planner.specs.Printout.{reader-text}
+use Rattle.planner.specs.Steps.{reader-text}
 use Rattle.planner.proofs.printout.put_records.Given as given
 
 abbrev pub Inv-loop-place : given.InvT-loop-place
