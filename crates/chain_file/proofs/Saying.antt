@@ -1,7 +1,7 @@
 -- The chain that a checked body says, drafted stage by stage.
-use mathlib.Core.Path.{_≡_, refl, sym, _∙_, ap}
-use mathlib.Core.Bool.{cond, true}
-use mathlib.Core.List.{List, [], _∷_, _++_, map}
+use mathlib.Core.Path.{_≡_, sym, _∙_, ap}
+use mathlib.Core.Bool.{cond}
+use mathlib.Core.List.{List, [], _∷_, map}
 use Prim.Native.Nat.{ℕ, _+_, _-_, _≤_, _<_}
 use native.Mathlib.Omega.{arith}
 use lib.Dec.{ltb}
@@ -14,7 +14,7 @@ use Rattle.std.specs.declared.option.Option.{Option}
 use Rattle.std.specs.declared.option.Option.the-variants.{Some, None}
 use Rattle.chain.proofs.Firsts.{none-first, none-stands}
 use Rattle.chain.specs.Drafting.{Contents, length-refusal, message-refusal, stage-refusal, start-refusal, with-message, with-stage}
-use Rattle.chain.specs.Limits.{most-boards, most-stages}
+use Rattle.chain.specs.Limits.{most-boards}
 use Rattle.chain.specs.Refusals.{Described}
 use Rattle.chain_file.specs.declared.fields.Head.{Head}
 use Rattle.chain_file.specs.Fields.{message-length, pin, said, stage, stage-length}

@@ -1,7 +1,7 @@
 -- The chain file: which chains its bytes hold, or which refusal comes at which record.
-use mathlib.Core.Bool.{Bool, cond, _&&_}
+use mathlib.Core.Bool.{Bool, cond, false, _&&_, _||_}
 use mathlib.Core.List.{List, [], _∷_, map}
-use Prim.Native.Nat.{ℕ, zero, suc, _+_, _-_, _*_, _%_}
+use Prim.Native.Nat.{ℕ, zero, suc, _+_, _*_}
 use lib.Dec.{eqb, leb, ltb}
 use lib.ListN.{drop, getD, length, take}
 use Rattle.std.specs.Iters.{counting}
@@ -30,8 +30,12 @@ abbrev pub body-size : ℕ → ℕ
 body-size n = 7 + 9 * n
 
 -- one of the sizes for 1 to 6 stages
+abbrev pub one-of : List ℕ → ℕ → Bool
+one-of [] n = false
+one-of (m ∷ ms) n = eqb n m || one-of ms n
+
 abbrev pub size-kept : ℕ → Bool
-size-kept n = eqb (n % 9) 7 && (leb (body-size 1) n && leb n (body-size most-stages))
+size-kept n = one-of (map body-size (counting 1 most-stages)) n
 
 -- what is wrong with stage k of n and with the message after it
 abbrev pub stage-row-refusal : (n : ℕ) (rest : List ℕ) → ℕ → Option Described

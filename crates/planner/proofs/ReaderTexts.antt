@@ -1,7 +1,7 @@
 -- What a reader has still to give, by what comes next in its file.
-use mathlib.Core.Path.{_≡_, refl, ap, sym, _∙_}
-use mathlib.Core.List.{List, [], _∷_, _++_, append-assoc}
-use Prim.Native.Nat.{ℕ, suc, _+_, _-_, _≤_, _<_}
+use mathlib.Core.Path.{_≡_, ap, sym, _∙_}
+use mathlib.Core.List.{[], _++_, append-assoc}
+use Prim.Native.Nat.{suc, _+_, _-_, _≤_}
 use native.Mathlib.Omega.{arith}
 use denote.Ref.{now}
 use Rattle.std.specs.Joined.{joined}
@@ -9,7 +9,7 @@ use Rattle.chain.specs.Drafting.{Contents}
 use Rattle.chain.specs.Refusals.{Described}
 use Rattle.chain_file.proofs.Nexts.{records-step}
 use Rattle.chain_file.specs.declared.readers.Reader.{Reader}
-use Rattle.chain_file.specs.Format.{Held, Next, chain, held-by, most-chains, next, records, refused, the-end}
+use Rattle.chain_file.specs.Format.{Next, chain, held-by, most-chains, next, records, refused, the-end}
 use Rattle.planner.specs.Printout.{chain-line, records-text, refusal-line, stop-text}
 use Rattle.planner.specs.Steps.{reader-text}
 

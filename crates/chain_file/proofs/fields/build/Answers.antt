@@ -1,8 +1,8 @@
-use mathlib.Core.Path.{_≡_, ap, sym, _∙_}
+use mathlib.Core.Path.{ap, _∙_}
 use Prim.Native.Nat.{_-_, _<_}
 use native.Mathlib.Omega.{arith}
 use lib.ListN.{length}
-use Rattle.std.specs.Of.Vec.{vec-items, vec-len}
+use Rattle.std.specs.Of.Vec.{vec-len}
 use Rattle.chain.specs.Drafting.{Contents, length-refusal, stage-refusal, with-message, with-stage}
 use Rattle.chain.specs.Limits.{most-boards, most-stages}
 use Rattle.chain_file.proofs.Saying.{length-said, message-fits, message-passes, not-refused, said-more, stage-passes}

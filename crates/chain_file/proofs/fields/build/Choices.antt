@@ -1,5 +1,4 @@
 use mathlib.Core.Path.{_≡_}
-use Prim.Native.Nat.{_+_}
 use Rattle.chain.specs.Drafting.{staged}
 use Rattle.chain_file.proofs.Saying.{said-upto}
 use Rattle.chain_file.proofs.fields.build.Given as given

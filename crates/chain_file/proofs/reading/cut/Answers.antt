@@ -1,4 +1,4 @@
-use mathlib.Core.Path.{_∙_, ap}
+use mathlib.Core.Path.{_∙_}
 use borrow.Author.Needs.{needs}
 use lib.ListN.{drop, take}
 use Rattle.std.proofs.shelf.Lists.{drop-drop, take-rest}

@@ -7,6 +7,7 @@ use denote.Ref.{now}
 use Rattle.std.specs.Of.String.{string-bytes}
 use Rattle.chain.specs.Drafting.{contents}
 use Rattle.chain_file.proofs.Nexts.{next-room}
+use Rattle.chain_file.specs.declared.readers.RecordRefusal.{RecordRefusal}
 use Rattle.chain_file.specs.Format.{chain, next, refused, the-end}
 use Rattle.chain_file.specs.Refusals.{described}
 use Rattle.planner.specs.Printout.{chain-line, refusal-line}
@@ -45,7 +46,7 @@ returns-in-Continue-put-refusal c =
     let e = c .in-Err-Refused .refusal in
     let told : next (r .read) (now (r .rest)) ≡ refused (described (e .why)) = search needs in
     let at : e .at ≡ r .read + 1 = search needs in
-    let line : string-bytes (c .put-refusal .last .text) ≡ was ++ refusal-line (record { at = e .at; why = described (e .why) }) = search needs in
-    line
+    c .in-Continue-put-refusal .ensures tt
+    ∙ ap (λ (x : RecordRefusal). was ++ refusal-line (record { at = x .at; why = described (x .why) })) (c .in-Err-Refused .refusal-is)
     ∙ ap (λ n. was ++ refusal-line (record { at = n; why = described (e .why) })) at
     ∙ ap (λ t. was ++ t) (sym (text-at-refusal r (c .pre) (described (e .why)) told))
