@@ -3,7 +3,7 @@
 ghost use mathlib.Core.Path.{_≡_};
 ghost use Rattle.std.specs.Of.Vec.{vec-len};
 ghost use Rattle.std.specs.Options.{mapped};
-ghost use Rattle.chain.specs.Drafting.{Answers, Starts, contents, length-refusal, message-refusal, pin-of, stage-refusal, staged, start-refusal, started, waiting, with-message, with-stage};
+ghost use Rattle.chain.specs.Drafting.{Answers, Starts, contents, length-refusal, message-refusal, stage-refusal, staged, start-refusal, started, waiting, with-message, with-stage};
 ghost use Rattle.chain.specs.Refusals.{described};
 use super::chains::Chain;
 use super::drafts::AwaitingMessage;
@@ -62,15 +62,6 @@ pub fn check_message(most: usize, stages: usize, length: u32) -> Option<DraftRef
         Some(DraftRefusal::StagesFull)
     } else {
         check_length(length)
-    }
-}
-
-impl Pin {
-    // The pin that a number names: 0 leaves the stage free.
-    pub fn from_number(pin: u8) -> Pin
-        ensures { λ r. ⌜ r ≡ pin-of pin ⌝ }
-    {
-        if pin == 0 { Pin::Free } else { Pin::Board(pin) }
     }
 }
 
