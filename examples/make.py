@@ -1,7 +1,8 @@
 #!/usr/bin/env python3
 """make.py DESCRIPTION: writes the chain file that a readable description tells to standard output.
 
-It checks nothing, so that a description can tell a file that the planner refuses.
+It checks nothing, so that a description can tell a file that the planner refuses; a line
+`bytes HEX` adds bytes as they are.
 """
 import re
 import sys
@@ -28,6 +29,8 @@ def main():
         line = line.split("#")[0].strip()
         if line.startswith("boards"):
             out += number(1, 1) + number(line.split()[1], 1)
+        elif line.startswith("bytes"):
+            out += bytes.fromhex(line.split()[1])
         elif line:
             head, tail = line.split(":")
             name, period, deadline = re.fullmatch(r"chain (\d+) period (\d+) deadline (\d+)", head).groups()

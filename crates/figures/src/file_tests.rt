@@ -20,7 +20,10 @@ use std::alloc::Global;
 use std::test::*;
 
 // A record of one stage: name 1, period 20, deadline 12, pin 1, length 2.
-const RECORD: [u8; 18] = [0, 16, 0, 1, 0, 0, 0, 20, 0, 0, 0, 12, 1, 1, 0, 0, 0, 2];
+const RECORD: &[u8; 18] = b"\
+    \x00\x10\
+    \x00\x01\x00\x00\x00\x14\x00\x00\x00\x0c\x01\
+    \x01\x00\x00\x00\x02";
 
 fn refused_header(bytes: &[u8]) -> Option<RecordRefusal> {
     match Reader::open(bytes) {
@@ -84,6 +87,7 @@ fn numbers() -> Result<(), Fail> {
 #[test]
 fn lengths_of_records(rt: LibcRuntime) -> Result<(), Fail> {
     let heap = rt.alloc();
+    let record = *RECORD;
     check_eq(refused_record(heap, &[0]), at_first(FileRefusal::TooShort))?;
     check_eq(
         refused_record(heap, &[0, 17]),
@@ -102,15 +106,15 @@ fn lengths_of_records(rt: LibcRuntime) -> Result<(), Fail> {
         at_first(FileRefusal::TooShort),
     )?;
     check_eq(
-        refused_record(heap, &RECORD[0..17]),
+        refused_record(heap, &record[0..17]),
         at_first(FileRefusal::TooShort),
     )?;
-    check_eq(refused_record(heap, &RECORD), None)
+    check_eq(refused_record(heap, RECORD), None)
 }
 
 // A copy of the record with one byte changed.
 fn refused_with(heap: Global, at: usize, byte: u8) -> Option<RecordRefusal> {
-    let mut record = RECORD;
+    let mut record = *RECORD;
     if at < 18 {
         record[at] = byte;
     }
@@ -152,7 +156,7 @@ fn a_byte_after_record_16_is_refused(rt: LibcRuntime) -> Result<(), Fail> {
     let mut bytes = Vec::new(heap);
     bytes.extend_from_slice(&[1, 2])?;
     for _ in 0..16u8 {
-        bytes.extend_from_slice(&RECORD)?;
+        bytes.extend_from_slice(RECORD)?;
     }
     bytes.push(9)?;
     let Ok(mut reader) = Reader::open(bytes.as_slice()) else {
@@ -184,7 +188,7 @@ fn the_end_touches_nothing(rt: LibcRuntime) -> Result<(), Fail> {
     let mut reader = Reader {
         boards: 2,
         read: 0,
-        rest: &RECORD,
+        rest: RECORD,
     };
     let mut place = None;
     check_eq(reader.next(heap, &mut place), Ok(Read::Chain))?;

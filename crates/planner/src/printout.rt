@@ -9,7 +9,7 @@ ghost use Rattle.chain.specs.Drafting.{contents};
 ghost use Rattle.chain_file.specs.Format.{most-chains};
 ghost use Rattle.chain_file.specs.Refusals.{described};
 ghost use Rattle.planner.specs.Placement.{placement-refusal};
-ghost use Rattle.planner.specs.Printout.{answer-text, chain-line, placed-text, printout, refusal-line, windows-text};
+ghost use Rattle.planner.specs.Printout.{answer-text, chain-line, placed-text, printout, refusal-line, window-text, windows-text};
 ghost use Rattle.planner.specs.Steps.{Turns, reader-text};
 use super::placement::check_pins;
 use super::placement::first_boards;
@@ -42,13 +42,20 @@ pub impl From<fmt::Error> for NoMemory as NoMemoryFromFmt {
     }
 }
 
+fn put_window(text: &mut String, part: Windowed) -> Result<(), NoMemory>
+    ensures { λ r. ⌜ made r (λ _. string-bytes (now (text .exit)) ≡ string-bytes (now (text .entry)) ++ window-text part) ⌝ }
+{
+    let window = part.window;
+    write!(text, " {window}")?;
+    Ok(())
+}
+
 fn put_windows(text: &mut String, parts: &[Windowed]) -> Result<(), NoMemory>
     ensures { λ r. ⌜ made r (λ _. string-bytes (now (text .exit)) ≡ string-bytes (now (text .entry)) ++ windows-text (now (parts .entry))) ⌝ }
 {
     text.push_str(" windows")?;
     for part in parts {
-        let window = part.window;
-        write!(text, " {window}")?;
+        put_window(text, *part)?;
     }
     Ok(())
 }

@@ -9,7 +9,7 @@ use Rattle.planner.proofs.printout.put_windows.Needs as need
 
 pub loop-part-again : need.loop-part-again
 loop-part-again c =
-    joined-turn window-text (string-bytes (c .push-str .last .self)) (c .args .parts .now) (c .loop-part .part-index) (string-bytes (c .loop-part .text)) _ _ (c .loop-part-test .taken) (c .loop-part .inv) (c .in-Continue-write .ensures tt .bytes)
+    joined-turn window-text (string-bytes (c .push-str .last .self)) (c .args .parts .now) (c .loop-part .part-index) (string-bytes (c .loop-part .text)) _ _ (c .loop-part-test .taken) (c .loop-part .inv) (c .in-Continue-put-window .ensures tt)
 
 pub returns : need.returns
 returns c =
