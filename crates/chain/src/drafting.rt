@@ -93,6 +93,7 @@ impl<const S: usize, const B: u8> AwaitingStage<S, B> {
         })
     }
 
+    // Takes a stage: a pin of 0 leaves it free, any other names its only board.
     pub fn stage(
         self,
         pin: u8,
@@ -125,6 +126,7 @@ impl<const S: usize, const B: u8> AwaitingStage<S, B> {
 }
 
 impl<const S: usize, const B: u8> AwaitingMessage<S, B> {
+    // Takes the message after the stage that was just taken.
     pub fn message(
         self,
         length: u32,
@@ -151,6 +153,7 @@ impl<const S: usize, const B: u8> AwaitingMessage<S, B> {
         })
     }
 
+    // The chain as it was drafted.
     pub fn finish(self) -> Chain<S, B>
         ensures { λ r. ⌜ contents r ≡ staged (self .entry) ⌝ }
     {

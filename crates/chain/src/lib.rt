@@ -10,8 +10,8 @@ pub mod refusals;
 pub mod stages;
 pub mod windows;
 
-// The most stages of a chain, and the most boards that a pin can name. These two lines are the
-// only places that fix the numbers: types and definitions take them as parameters.
+// The most stages of a chain, and the most boards that a pin can name. Types and definitions take
+// both as parameters: the code fixes them here, the definitions in specs/Limits.antt.
 pub const STAGES: usize = 6;
 
 pub const BOARDS: u8 = 4;

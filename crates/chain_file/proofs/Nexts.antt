@@ -19,10 +19,11 @@ use Rattle.chain_file.specs.Fields.{head, rest, said}
 use Rattle.chain_file.specs.Format.{after-record, body, body-refusal, body-size, chain, cut-refusal, fields-refusal, held-by, most-chains, next, record-refusal, records, unless-refused}
 use Rattle.chain_file.specs.Steps.{Records, Tells}
 
-second : (a b : Option Described) → a ≡ None → first-of (a ∷ b ∷ []) ≡ b
-second None None e = refl
-second None (Some w) e = refl
-second (Some w) b e = let z : _≡_ {A = ℕ} 0 1 = cc in absurd (omega arith)
+-- where the first of two conditions does not stand
+second-decides : (a b : Option Described) → a ≡ None → first-of (a ∷ b ∷ []) ≡ b
+second-decides None None e = refl
+second-decides None (Some w) e = refl
+second-decides (Some w) b e = let z : _≡_ {A = ℕ} 0 1 = cc in absurd (omega arith)
 
 module _ (read : ℕ) (bs : List ℕ) (some : 0 < length bs) where
   by-refusal : next read bs ≡ unless-refused (record-refusal read bs) bs
@@ -34,7 +35,7 @@ module _ (read : ℕ) (bs : List ℕ) (some : 0 < length bs) where
 
   -- where the bounds are right, the body decides
   pub next-by-body : cut-refusal read bs ≡ None → next read bs ≡ unless-refused (body-refusal (body bs)) bs
-  next-by-body right = by-refusal ∙ ap (λ o. unless-refused o bs) (second (cut-refusal read bs) (body-refusal (body bs)) right)
+  next-by-body right = by-refusal ∙ ap (λ o. unless-refused o bs) (second-decides (cut-refusal read bs) (body-refusal (body bs)) right)
 
 -- a cut that is right has room for one record more
 pub cut-room : (read : ℕ) (bs : List ℕ) → cut-refusal read bs ≡ None → read < most-chains
@@ -44,7 +45,7 @@ cut-room read bs right = grind (arith, tells)
 pub body-by-fields : (bs : List ℕ) → body-size (head bs .stages) ≡ length bs → body-refusal bs ≡ fields-refusal (head bs) (rest bs)
 body-by-fields bs right =
     let wrong = numbered 15 (length bs ∷ []) in
-    second (unless (eqb (body-size (head bs .stages)) (length bs)) wrong) (fields-refusal (head bs) (rest bs)) (ap (λ b. unless b wrong) (eq-eqb (body-size (head bs .stages)) (length bs) right))
+    second-decides (unless (eqb (body-size (head bs .stages)) (length bs)) wrong) (fields-refusal (head bs) (rest bs)) (ap (λ b. unless b wrong) (eq-eqb (body-size (head bs .stages)) (length bs) right))
 
 -- want of memory, and what is wrong with a body, are passed on
 pub body-error : (read : ℕ) (bs : List ℕ) (e : ReadError) → 0 < length bs → cut-refusal read bs ≡ None → Tells read (body bs) (Err e) → Records read bs (Err e)

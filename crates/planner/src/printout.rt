@@ -42,6 +42,7 @@ pub impl From<fmt::Error> for NoMemory as NoMemoryFromFmt {
     }
 }
 
+// One window of a chain's line.
 fn put_window(text: &mut String, part: Windowed) -> Result<(), NoMemory>
     ensures { λ r. ⌜ made r (λ _. string-bytes (now (text .exit)) ≡ string-bytes (now (text .entry)) ++ window-text part) ⌝ }
 {
@@ -78,6 +79,7 @@ fn put_placed(
     }
 }
 
+// The line of a refused file.
 fn put_refusal(text: &mut String, refusal: RecordRefusal) -> Result<(), NoMemory>
     ensures { λ r. ⌜ made r (λ _. string-bytes (now (text .exit)) ≡ string-bytes (now (text .entry)) ++ refusal-line (record { at = refusal .at; why = described (refusal .why) })) ⌝ }
 {
@@ -107,6 +109,7 @@ fn put_answer(
     put_placed(text, row, chain, placement.as_slice())
 }
 
+// The whole line of a chain.
 fn put_chain(
     heap: Global,
     text: &mut String,
