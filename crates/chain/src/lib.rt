@@ -2,6 +2,8 @@
 // parts once every stage has a board. A draft that waits for a stage and one that has just taken
 // a stage are two types, so a chain with a message too many is not a program. It stands on
 // nothing but the standard library.
+#![tactic(auto)]
+
 pub mod chains;
 pub mod drafting;
 pub mod drafts;

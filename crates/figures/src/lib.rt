@@ -1,5 +1,7 @@
 // Worked figures: joint statements, proved of the definitions that the contracts of the code
 // cite, and the same figures and every refusal run as tests. It stands on every library.
+#![tactic(auto)]
+
 ghost use Rattle.std.specs.Prelude.{◌≡◌};
 ghost use Rattle.figures.specs.Figures.{Figures};
 ghost use Rattle.figures.specs.QuestionFigures.{QuestionFigures};

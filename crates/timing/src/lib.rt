@@ -2,6 +2,8 @@
 // and the question whether one item of a table passes with some items above it and some below. A
 // test is any type with the trait `TimingTest`, known only by its meaning and four laws. It stands
 // on `chain` for the limit on ticks and the way refusals are stated.
+#![tactic(auto)]
+
 pub mod items;
 pub mod making;
 pub mod places;

@@ -6,19 +6,19 @@ use Rattle.chain.proofs.Filling.{windows-fill}
 use Rattle.chain.proofs.PartSteps.{fill_turn, left, message, nothing_left, total-step}
 use Rattle.chain.proofs.windows.fill.Given as given
 use Rattle.chain.proofs.windows.fill.Goals as goal
-use Rattle.chain.proofs.windows.fill.Goals.{After-message-after-message}
+use Rattle.chain.proofs.windows.fill.Goals.{After-message_after-message}
 
-inside : (g : given.Over) (c : After-message-after-message g) → c.loop-k.k < length (vec_items c.args.chain.now.stages)
+inside : (g : given.Over) (c : After-message_after-message g) → c.loop-k.k < length (vec_items c.args.chain.now.stages)
 inside g c = omega (arith, c.args.chain.now.stages.ok.0)
 
 -- the work of a stage, of its message and of what is left after them
-work : (g : given.Over) (c : After-message-after-message g) → c.loop-k.before + (c.index.result.now.length + (total (message (contents c.args.chain.now) c.args.boards.now c.loop-k.k) + total (left (contents c.args.chain.now) c.args.boards.now (c.loop-k.k + 1)))) ≡ c.args.sum
+work : (g : given.Over) (c : After-message_after-message g) → c.loop-k.before + (c.index.result.now.length + (total (message (contents c.args.chain.now) c.args.boards.now c.loop-k.k) + total (left (contents c.args.chain.now) c.args.boards.now (c.loop-k.k + 1)))) ≡ c.args.sum
 work g c = omega (arith, total-step (contents c.args.chain.now) c.args.boards.now c.loop-k.k c.index.result.now (inside g c) c.index.ensures, c.loop-k.invariant.0)
 
 pub put-before-requires : goal.put-before-requires
 put-before-requires g c = record {
   some = c.requires.some;
-  within = omega (arith, work g (goal.at.put-before-requires g c).After-message-after-message);
+  within = omega (arith, work g (goal.at.put-before-requires g c).After-message_after-message);
   room = omega (arith, c.loop-k.invariant.2, c.loop-k.invariant.3, c.requires.room);
 }
 
@@ -27,20 +27,20 @@ put-before-requires-in-loop-k g c =
     let put = c.put-before.ensures in
     record {
       some = c.requires.some;
-      within = omega (arith, work g (goal.at.put-before-requires-in-loop-k g c).After-message-after-message, ap total c.message-after-message.ensures, put.after);
+      within = omega (arith, work g (goal.at.put-before-requires-in-loop-k g c).After-message_after-message, ap total c.message_after-message.ensures, put.after);
       room = omega (arith, c.loop-k.invariant.2, c.loop-k.invariant.3, c.requires.room, put.len, put.capacity);
     }
 
 pub loop-k-preserved : goal.loop-k-preserved
 loop-k-preserved g c =
-    let turn = (goal.at.loop-k-preserved g c).After-message-after-message in
+    let turn = (goal.at.loop-k-preserved g c).After-message_after-message in
     let stage = c.put-before.ensures in
     let sent = c.put-before-in-loop-k.ensures in (
-      omega (arith, work g turn, ap total c.message-after-message.ensures, stage.after, sent.after),
+      omega (arith, work g turn, ap total c.message_after-message.ensures, stage.after, sent.after),
       fill_turn (contents c.args.chain.now) c.args.boards.now c.loop-k.k c.index.result.now (inside g turn) c.index.ensures _ _
           (vec_items c.loop-k.row) (vec_items c.put-before.new.row) _ _
           c.loop-k.before c.put-before.result c.put-before-in-loop-k.result _ _
-          (search rules) c.message-after-message.ensures stage.after stage.items sent.after sent.items c.loop-k.invariant.1,
+          (search rules) c.message_after-message.ensures stage.after stage.items sent.after sent.items c.loop-k.invariant.1,
       omega (arith, c.loop-k.invariant.2, stage.len, sent.len),
       sent.capacity ∙ stage.capacity ∙ c.loop-k.invariant.3,
     )

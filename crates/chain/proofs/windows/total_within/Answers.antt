@@ -6,23 +6,23 @@ use Rattle.chain.proofs.Filling.{some_work}
 use Rattle.chain.proofs.PartSteps.{left, nothing_left, total-step}
 use Rattle.chain.proofs.windows.total_within.Given as given
 use Rattle.chain.proofs.windows.total_within.Goals as goal
-use Rattle.chain.proofs.windows.total_within.Goals.{After-is-past}
+use Rattle.chain.proofs.windows.total_within.Goals.{After-is_past}
 
 -- one turn adds the lengths of a stage and of its message
-turn : (g : given.Over) (c : After-is-past g) → c.loop-k.upto + (c.from.result + c.from-in-loop-k.result) + total (left (contents c.args.chain.now) c.args.boards.now (c.loop-k.k + 1)) ≡ total (parts (contents c.args.chain.now) c.args.boards.now)
+turn : (g : given.Over) (c : After-is_past g) → c.loop-k.upto + (c.from.result + c.from-in-loop-k.result) + total (left (contents c.args.chain.now) c.args.boards.now (c.loop-k.k + 1)) ≡ total (parts (contents c.args.chain.now) c.args.boards.now)
 turn g c =
     let chain = c.args.chain.now in
     omega (
       arith,
       total-step (contents chain) c.args.boards.now c.loop-k.k c.index.result.now (omega (arith, chain.stages.ok.0)) c.index.ensures,
-      ap total c.message-after-message.ensures,
+      ap total c.message_after-message.ensures,
     )
 
-pub returns-then-is-past : goal.returns-then-is-past
-returns-then-is-past g c = omega (arith, turn g (goal.at.returns-then-is-past g c).After-is-past, ltb-true _ _ (sym c.if-is-past.ensures))
+pub returns-then-is_past : goal.returns-then-is_past
+returns-then-is_past g c = omega (arith, turn g (goal.at.returns-then-is_past g c).After-is_past, ltb-true _ _ (sym c.if-is_past.ensures))
 
 pub loop-k-preserved : goal.loop-k-preserved
-loop-k-preserved g c = (ltb-false _ _ (sym c.if-is-past.ensures), turn g (goal.at.loop-k-preserved g c).After-is-past)
+loop-k-preserved g c = (ltb-false _ _ (sym c.if-is_past.ensures), turn g (goal.at.loop-k-preserved g c).After-is_past)
 
 pub returns : goal.returns
 returns g c =
