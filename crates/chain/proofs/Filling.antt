@@ -2,7 +2,7 @@
 use Rattle.std.proofs.Common.{◌≡◌, ℕ, zero, suc, ◌+◌, ◌-◌, ◌≤◌, true, leb, List, [], ◌∷◌, ◌++◌, length, take, sym, refl, ap, ◌∙◌, add-zero, zero-add, arith}
 use Rattle.std.proofs.lemmas.List.Sums.{sum_by-cons}
 use Rattle.std.proofs.lemmas.Bool.{and_parts, leb-true}
-use Rattle.std.specs.List.{AllByRecursion as All}
+use Rattle.std.specs.List.{AllByRecursion}
 use Rattle.chain.specs.declared.parts.Part.{Part}
 use Rattle.chain.specs.declared.parts.Windowed.{Windowed}
 use Rattle.chain.specs.declared.stages.Stage.{Stage}
@@ -26,7 +26,7 @@ module _ (deadline sum : ℕ) (some : 1 ≤ sum) (fits : sum ≤ deadline) where
         ap (end deadline sum) on,
       )
 
-  each_holds_its_part : (before : ℕ) (ps : List Part) → before + total ps ≤ sum → All (λ (w : Windowed). (w.part.length ≤ w.window) × (w.window ≤ deadline)) (windowed deadline sum before ps)
+  each_holds_its_part : (before : ℕ) (ps : List Part) → before + total ps ≤ sum → AllByRecursion (λ (w : Windowed). (w.part.length ≤ w.window) × (w.window ≤ deadline)) (windowed deadline sum before ps)
   each_holds_its_part b [] h = tt
   each_holds_its_part b (p ∷ ps) h =
       let inside : b + p.length + total ps ≤ sum = omega (arith, sum_by-cons (λ (q : Part). q.length) p ps) in (

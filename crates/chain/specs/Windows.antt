@@ -1,7 +1,7 @@
 -- The windows of a placed chain's parts. The ends are what is defined; a window is the way from
 -- one end to the next, so that rounding never adds up.
 use Rattle.std.specs.Prelude.{◌≡◌, ℕ, ◌+◌, ◌-◌, ◌*◌, ◌/◌, ◌<◌, ◌≤◌, List, [], ◌∷◌, take, Ok, Err, vec_items, sum_by, Result}
-use Rattle.std.specs.List.{AllByRecursion as All}
+use Rattle.std.specs.List.{AllByRecursion}
 use Rattle.chain.specs.declared.parts.Part.{Part}
 use Rattle.chain.specs.declared.parts.PartRow.{PartRow}
 use Rattle.chain.specs.declared.parts.TooLong.{TooLong}
@@ -37,7 +37,7 @@ time ws = sum_by (λ (w : Windowed). w.window) ws
 pub record Fill (deadline : ℕ) (ws : List Windowed) : Type 0 where
   pub ends : (k : ℕ) → time (take k ws) ≡ end deadline (work ws) (work (take k ws))
   pub whole : time ws ≡ deadline
-  pub each : All (λ (w : Windowed). (w.part.length ≤ w.window) × (w.window ≤ deadline)) ws
+  pub each : AllByRecursion (λ (w : Windowed). (w.part.length ≤ w.window) × (w.window ≤ deadline)) ws
 
 -- The answer of placing a chain: too long exactly where the parts exceed the deadline, and then
 -- the row is as it was.

@@ -6,18 +6,18 @@ use Rattle.chain.specs.Refusals.{described}
 use Rattle.chain_file.specs.Format.{stage_row_refusal}
 use Rattle.chain_file.proofs.fields.check_rows.Goals as goal
 
-pub returns-then-is-some : goal.returns-then-is-some
-returns-then-is-some c =
+pub returns-then-is_some : goal.returns-then-is_some
+returns-then-is_some c =
     let n = c.args.n in
     let k = c.loop-k.k in
-    left-stands (stage_row_refusal n c.args.rest.now) (range_with_len 0 n) k k k (omega (arith, length-range_with_len 0 n)) (omega (arith, get_or-range_with_len 0 n k k c.loop-k-test.true)) described c.check-row-why.result c.check-row-why.ensures (sym c.if-is-some.ensures)
+    left-stands (stage_row_refusal n c.args.rest.now) (range_with_len 0 n) k k k (omega (arith, length-range_with_len 0 n)) (omega (arith, get_or-range_with_len 0 n k k c.loop-k-test.true)) described c.check_row-why.result c.check_row-why.ensures (sym c.if-is_some.ensures)
     ∙ c.loop-k.invariant
 
 pub loop-k-preserved : goal.loop-k-preserved
 loop-k-preserved c =
     let n = c.args.n in
     let k = c.loop-k.k in
-    left_passed (stage_row_refusal n c.args.rest.now) (range_with_len 0 n) k k k (omega (arith, length-range_with_len 0 n)) (omega (arith, get_or-range_with_len 0 n k k c.loop-k-test.true)) described c.check-row-why.result c.check-row-why.ensures (sym c.if-is-some.ensures)
+    left_passed (stage_row_refusal n c.args.rest.now) (range_with_len 0 n) k k k (omega (arith, length-range_with_len 0 n)) (omega (arith, get_or-range_with_len 0 n k k c.loop-k-test.true)) described c.check_row-why.result c.check_row-why.ensures (sym c.if-is_some.ensures)
     ∙ c.loop-k.invariant
 
 pub returns : goal.returns

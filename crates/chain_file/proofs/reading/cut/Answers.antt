@@ -5,8 +5,8 @@ use Rattle.chain_file.proofs.reading.cut.Goals as goal
 pub returns : goal.returns
 returns c =
     let bytes = c.args.bytes.now in
-    let size = c.from-size.ensures ∙ c.from-be-bytes-length.ensures in (
+    let size = c.from-size.ensures ∙ c.from_be_bytes-length.ensures in (
       search rules,
-      c.split-at.ensures.front ∙ (λ i. take (size i) (take_rest bytes 2 i)),
-      c.split-at.ensures.back ∙ (λ i. drop (size i) (take_rest bytes 2 i)) ∙ drop-drop _ 2 bytes,
+      c.split_at.ensures.front ∙ (λ i. take (size i) (take_rest bytes 2 i)),
+      c.split_at.ensures.back ∙ (λ i. drop (size i) (take_rest bytes 2 i)) ∙ drop-drop _ 2 bytes,
     )
