@@ -1,5 +1,7 @@
 // The program: reads a chain file from standard input and prints the windows of every chain in
 // it. The text is made by a call whose contract gives every byte; main reads, calls and prints.
+#![tactic(auto)]
+
 mod placement;
 mod printout;
 #[cfg(test)]

@@ -3,14 +3,14 @@ use Rattle.chain.proofs.Firsts.{left-all, left_passed, left-stands}
 use Rattle.planner.specs.Placement.{described, pin_refusal}
 use Rattle.planner.proofs.placement.check_pins.Goals as goal
 
-pub returns-then-is-some : goal.returns-then-is-some
-returns-then-is-some c =
-    left-stands (pin_refusal c.args.boards) c.args.stages.now c.loop-stage.stage-index _ _ c.loop-stage-test.true refl described c.check-pin-why.result c.check-pin-why.ensures (sym c.if-is-some.ensures)
+pub returns-then-is_some : goal.returns-then-is_some
+returns-then-is_some c =
+    left-stands (pin_refusal c.args.boards) c.args.stages.now c.loop-stage.stage-index _ _ c.loop-stage-test.true refl described c.check_pin-why.result c.check_pin-why.ensures (sym c.if-is_some.ensures)
     ∙ c.loop-stage.invariant
 
 pub loop-stage-preserved : goal.loop-stage-preserved
 loop-stage-preserved c =
-    left_passed (pin_refusal c.args.boards) c.args.stages.now c.loop-stage.stage-index _ _ c.loop-stage-test.true refl described c.check-pin-why.result c.check-pin-why.ensures (sym c.if-is-some.ensures)
+    left_passed (pin_refusal c.args.boards) c.args.stages.now c.loop-stage.stage-index _ _ c.loop-stage-test.true refl described c.check_pin-why.result c.check_pin-why.ensures (sym c.if-is_some.ensures)
     ∙ c.loop-stage.invariant
 
 pub returns : goal.returns

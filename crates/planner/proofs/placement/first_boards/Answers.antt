@@ -7,7 +7,7 @@ use Rattle.planner.proofs.placement.first_boards.Goals as goal
 
 pub loop-stage-preserved : goal.loop-stage-preserved
 loop-stage-preserved c =
-    pushed (c.first_board.result ∷ []) c.loop-stage.invariant c.in-ok-push.was c.push.ensures.items
+    pushed (c.first_board.result ∷ []) c.loop-stage.invariant c.in_ok-push.was c.push.ensures.items
     ∙ ap (λ b. first_boards (take c.loop-stage.stage-index c.args.stages.now) ++ b ∷ []) c.first_board.ensures
     ∙ sym (map_more (λ (s : Stage). first_board s.pin) c.args.stages.now c.loop-stage.stage-index _ c.loop-stage-test.true)
 

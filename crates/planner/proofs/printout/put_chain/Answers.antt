@@ -4,4 +4,4 @@ use Rattle.planner.proofs.printout.put_chain.Goals as goal
 
 pub returns : goal.returns
 returns c =
-    three_pieces (string_bytes c.args.text.now) _ _ _ (codes "chain " ++ decimal c.args.chain.now.name) _ _ c.in-ok-write.ensures.bytes c.in-ok-put-answer.ensures c.in-ok-push-str.ensures.bytes
+    three_pieces (string_bytes c.args.text.now) _ _ _ (codes "chain " ++ decimal c.args.chain.now.name) _ _ c.in_ok-write.ensures.bytes c.in_ok-put_answer.ensures c.in_ok-push_str.ensures.bytes

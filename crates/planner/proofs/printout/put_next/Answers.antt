@@ -16,8 +16,8 @@ returns-in-Ok-End c =
     let told : next r.read r.rest.now ≡ the_end = search rules in
     sym (append-nil was) ∙ ap (λ t. was ++ t) (sym (text_at_end r c.requires told))
 
-pub returns-in-ok-put-chain : goal.returns-in-ok-put-chain
-returns-in-ok-put-chain c =
+pub returns-in_ok-put_chain-in-Ok-Chain : goal.returns-in_ok-put_chain-in-Ok-Chain
+returns-in_ok-put_chain-in-Ok-Chain c =
     let r = c.args.reader.now in
     let s = c.next.new.self in
     let was = string_bytes c.args.text.now in
@@ -25,7 +25,7 @@ returns-in-ok-put-chain c =
     let told : next r.read r.rest.now ≡ chain x s.rest.now = search rules in
     let on : s.read ≡ r.read + 1 = search rules in
     let same : s.boards ≡ r.boards = search rules in
-    let line : string_bytes c.put-chain.new.text ≡ was ++ chain_line r.boards x = search rules in (
+    let line : string_bytes c.put_chain.new.text ≡ was ++ chain_line r.boards x = search rules in (
       ap (λ t. t ++ reader_text s) line
           ∙ append_assoc was (chain_line r.boards x) (reader_text s)
           ∙ ap (λ t. was ++ t) (sym (text_at_chain r c.requires s x told on same)),
@@ -33,14 +33,14 @@ returns-in-ok-put-chain c =
       omega (arith, next-room r.read r.rest.now s.rest.now x told),
     )
 
-pub returns-in-ok-put-refusal : goal.returns-in-ok-put-refusal
-returns-in-ok-put-refusal c =
+pub returns-in_ok-put_refusal-in-Err-Refused : goal.returns-in_ok-put_refusal-in-Err-Refused
+returns-in_ok-put_refusal-in-Err-Refused c =
     let r = c.args.reader.now in
     let was = string_bytes c.args.text.now in
     let e = c.in-Err-Refused.refusal in
     let told : next r.read r.rest.now ≡ refused (described e.why) = search rules in
     let at : e.at ≡ r.read + 1 = search rules in
-    c.in-ok-put-refusal.ensures
+    c.in_ok-put_refusal-in-Err-Refused.ensures
     ∙ ap (λ (x : RecordRefusal). was ++ refusal_line (record { at = x.at; why = described x.why })) c.in-Err-Refused.refusal-is
     ∙ ap (λ n. was ++ refusal_line (record { at = n; why = described e.why })) at
     ∙ ap (λ t. was ++ t) (sym (text_at_refusal r c.requires (described e.why) told))
