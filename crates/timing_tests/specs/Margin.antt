@@ -1,6 +1,6 @@
 -- A margin over a test.
 use Rattle.std.specs.Prelude.{ℕ, ◌+◌, ◌-◌, max, cond, List, length, Some, None, Option, nat_le, slice_set}
-use Rattle.std.proofs.Common.{arith}
+use Rattle.std.proofs.Math.Nat.{le_trans, le-max_left, max-le, sub-le}
 use Rattle.std.specs.List.{slice_get}
 use Rattle.timing.specs.declared.items.Item.{Item}
 use Rattle.timing.specs.Places.{proper}
@@ -10,15 +10,13 @@ use Rattle.timing.specs.Rows.{of_item}
 -- only there, and elsewhere its window is its length
 abbrev pub narrowed : Item → ℕ → Item
 narrowed x g =
-    let short = x.fits in
-    let within = x.ends in
     record {
       length = x.length;
       period = x.period;
       window = max x.length (x.window - g);
       some = x.some;
-      fits = omega arith;
-      ends = omega arith;
+      fits = le-max_left x.length (x.window - g);
+      ends = max-le (le_trans x.fits x.ends) (le_trans (sub-le x.window g) x.ends);
       few = x.few;
     }
 

@@ -6,7 +6,7 @@ use Rattle.timing.proofs.places.is_meant.Goals as goal
 pub returns : goal.returns
 unfolding proper
 returns c = record {
-  test = c.meets-conditions.ensures;
-  means = Decides-at c.meets-conditions.result _ c.meets-conditions.ensures
+  test = c.meets_conditions.ensures;
+  means = Decides-at c.meets_conditions.result _ c.meets_conditions.ensures
       (proper-decides c.args.n c.args.place c.args.above.bits c.args.below.bits);
 }

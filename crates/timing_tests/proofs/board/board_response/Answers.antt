@@ -15,7 +15,7 @@ returns c =
     let x = c.index-table-place.result in
     let up = chosen above table in
     let down = chosen below table in
-    let asked = c.if-not-is-proper.ensures in
+    let asked = c.if-not-is_proper.ensures in
     let at = slice_get_read table _ place x refl (asked.means.0 refl).asked_inside c.index-table-place.is in
     board_time-is x up down c.settled.result c.settled.ensures
     ∙ sym (answered None board_time table place above below x up down (sym asked.test) at refl refl)

@@ -5,8 +5,8 @@ use Rattle.timing_tests.proofs.board.least_board_end.Goals as goal
 
 pub returns : goal.returns
 returns c = record {
-  same = c.board-response.ensures;
+  same = c.board_response.ensures;
   least = subst (BoardResponse c.args.table.now c.args.place c.args.above.bits c.args.below.bits)
-      (sym c.board-response.ensures)
+      (sym c.board_response.ensures)
       (asked_least (λ x up down. BoardEnds x up) board_time board_time-least c.args.table.now c.args.place c.args.above.bits c.args.below.bits);
 }

@@ -15,8 +15,8 @@ returns c =
     let x = c.index-table-place.result in
     let up = chosen above table in
     let down = chosen below table in
-    let asked = c.if-not-is-proper.ensures in
+    let asked = c.if-not-is_proper.ensures in
     let at = slice_get_read table _ place x refl (asked.means.0 refl).asked_inside c.index-table-place.is in
-    c.end-after.ensures
-    ∙ bus_time-is x up down c.wait-of-wait.result c.wait-of-wait.ensures
+    c.end_after.ensures
+    ∙ bus_time-is x up down c.wait_of-wait.result c.wait_of-wait.ensures
     ∙ sym (answered None bus_time table place above below x up down (sym asked.test) at refl refl)

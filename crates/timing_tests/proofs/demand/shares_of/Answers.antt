@@ -16,7 +16,7 @@ loop-item-preserved c =
     elim c.if-has.branch [
       | then-has w ↦
           let more = sum_taken share m k c.loop-item.sum _ xs x c.loop-item-test.true c.item-item.is (sym here ∙ w.if-has.true) inv.3 in
-          let e : c.if-has.sum ≡ c.loop-item.sum + share x = w.sum-is ∙ ap (λ n. c.loop-item.sum + n) w.share-of-sum.ensures.share in
+          let e : c.if-has.sum ≡ c.loop-item.sum + share x = w.sum-is ∙ ap (λ n. c.loop-item.sum + n) w.share_of-sum.ensures.share in
           (omega arith, omega arith, omega arith, ap (λ n. n + shares (chosen_from m (k + 1) (drop (k + 1) xs))) e ∙ more)
       | else-has w ↦
           let more = sum_skipped share m k c.loop-item.sum _ xs x c.loop-item-test.true c.item-item.is (sym here ∙ w.if-has.false) inv.3 in

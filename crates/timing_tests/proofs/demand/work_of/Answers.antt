@@ -10,13 +10,13 @@ bounded inclusive x t n small is =
     let e : n * x.length ≡ releases inclusive t x.period * x.length = ap (λ (m : ℕ). m * x.length) is in
     omega arith
 
-pub overflow-mul-result : goal.overflow-mul-result
-overflow-mul-result g c =
-    let h = bounded _ c.args.item c.args.t c.releases-of.result c.requires c.releases-of.ensures in
+pub overflow_mul-result : goal.overflow_mul-result
+overflow_mul-result g c =
+    let h = bounded _ c.args.item c.args.t c.releases_of.result c.requires c.releases_of.ensures in
     search rules
 
 pub returns : goal.returns
 returns g c = record {
-  work = ap (λ (m : ℕ). m * c.args.item.length) c.releases-of.ensures;
-  small = bounded _ c.args.item c.args.t c.releases-of.result c.requires c.releases-of.ensures;
+  work = ap (λ (m : ℕ). m * c.args.item.length) c.releases_of.ensures;
+  small = bounded _ c.args.item c.args.t c.releases_of.result c.requires c.releases_of.ensures;
 }

@@ -12,4 +12,4 @@ front_set copied xs rest i y same inside =
     ∙ take-append_seam (set xs i y) rest
 
 pub returns : goal.returns
-returns c = front_set c.copy-from-slice.new.self c.args.table.now _ c.args.place c.args.item c.copy-from-slice.ensures.after c.requires.inside
+returns c = front_set c.copy_from_slice.new.self c.args.table.now _ c.args.place c.args.item c.copy_from_slice.ensures.after c.requires.inside

@@ -10,10 +10,10 @@ returns g c =
     let place = c.args.place in
     let above = c.args.above.bits in
     let below = c.args.below.bits in
-    let tight = take (length table - 0) c.in-ok-tight.tight in
+    let tight = take (length table - 0) c.in_ok-tight.tight in
     let whole : length table ≡ length table - 0 = omega arith in
     let is : narrowed_table self.ticks table place above below ≡ Some tight =
-    c.in-ok-tight.ensures.1 ∙ ap (λ n. Some (take n c.in-ok-tight.tight)) whole in
+    c.in_ok-tight.ensures.1 ∙ ap (λ n. Some (take n c.in_ok-tight.tight)) whole in
     record {
       same = c.response.ensures.same ∙ ap (of_table (g.T.TimedTest.time self.test) None place above below) (sym is);
       timely = margin-timely (g.T.TimingTest.meaning self.test) self.ticks table tight place above below c.response.result is c.response.ensures.timely;
