@@ -1,5 +1,7 @@
 // The program: asks both timing tests about every place of a table, many times over, so that their
 // speed can be measured. What it prints sums up the answers.
+#![tactic(auto)]
+
 mod asking;
 mod reading;
 

@@ -1,6 +1,6 @@
 // Answering a question.
 ghost use Rattle.std.specs.Prelude.{◌≡◌};
-ghost use Rattle.crosscheck.specs.Answers.{answer as answer-to, replies, reply};
+ghost use Rattle.crosscheck.specs.Answers.{answer as answer_to, replies, reply};
 
 use super::questions::{Question, Table, Test};
 use std::fmt;
@@ -87,7 +87,7 @@ fn replies_of<T: TimedTest + Copy>(test: T, question: &Question, table: &[Item])
 
 impl Question {
     pub(super) fn answer(&self) -> Answer
-        ensures { result ≡ answer-to self.now }
+        ensures { result ≡ answer_to self.now }
     {
         match &self.table {
             Table::Refused(why) => Answer::Refused(*why),

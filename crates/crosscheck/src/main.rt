@@ -1,5 +1,7 @@
 // The program: reads questions about timing tests from standard input, a line each, and prints the
 // answer to each. It serves to compare the proved tests with a second version of them.
+#![tactic(auto)]
+
 mod answers;
 mod questions;
 
