@@ -16,6 +16,8 @@ pub trait TimingTest {
     fn passes(&self, table: &[Item], place: usize, above: PlaceSet, below: PlaceSet) -> bool
         ensures { result ≡ meaning self.now table.now place above.bits below.bits };
 
+    // Four laws, which each implementation proves. They stand below the last method, where the
+    // language looks for laws.
     ghost improper: { ImproperIsNo meaning };
 
     ghost local: { Local meaning };
