@@ -33,8 +33,8 @@ module _ {X : Type 0} (condition : X → Option Described) (xs : List X) where
       left-stands some =
           sym (step ∙ ap (λ o. first_of (o ∷ map condition (drop (k + 1) xs))) (sym checked) ∙ stands described why (map condition (drop (k + 1) xs)) some)
 
-      pub left_passed : is_some why ≡ false → left (k + 1) ≡ left k
-      left_passed none =
+      pub left-passed : is_some why ≡ false → left (k + 1) ≡ left k
+      left-passed none =
           sym (step ∙ ap (λ o. first_of (o ∷ map condition (drop (k + 1) xs))) (sym checked) ∙ passed described why (map condition (drop (k + 1) xs)) none)
 
 -- where no refusal is found, no condition stands

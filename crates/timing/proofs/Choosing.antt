@@ -70,8 +70,8 @@ chosen-set m k (suc i) (x ∷ xs) y out =
     ap (λ r. cond (holds m k) (x ∷ r) r) (chosen-set m (k + 1) i xs y (ap (holds m) (omega arith) ∙ out))
 
 -- one turn of a loop over a table, with the place counted beside it
-pub chosen_more : {X : Type 0} (m k : ℕ) (xs : List X) (x : X) → k < length xs → x ≡ get_or xs k x → chosen_from m k (drop k xs) ≡ cond (holds m k) (x ∷ chosen_from m (k + 1) (drop (k + 1) xs)) (chosen_from m (k + 1) (drop (k + 1) xs))
-chosen_more m k xs x within is =
+pub chosen-more : {X : Type 0} (m k : ℕ) (xs : List X) (x : X) → k < length xs → x ≡ get_or xs k x → chosen_from m k (drop k xs) ≡ cond (holds m k) (x ∷ chosen_from m (k + 1) (drop (k + 1) xs)) (chosen_from m (k + 1) (drop (k + 1) xs))
+chosen-more m k xs x within is =
     at_drop_more (chosen_from m k) xs k x within
     ∙ ap (λ y. chosen_from m k (y ∷ drop (k + 1) xs)) (sym is)
 

@@ -6,7 +6,7 @@ use Rattle.std.proofs.lemmas.List.Sums.{sum_by-cons}
 use Rattle.std.proofs.lemmas.Bool.{cases_eq, cond-true, cond-false}
 use Rattle.timing.specs.declared.items.Item.{Item}
 use Rattle.timing.specs.Places.{chosen_from, holds}
-use Rattle.timing.proofs.Choosing.{chosen-all, chosen_more}
+use Rattle.timing.proofs.Choosing.{chosen-all, chosen-more}
 use Rattle.timing_tests.specs.Demand.{interference, releases}
 use Rattle.timing_tests.specs.Steps.{first}
 
@@ -37,14 +37,14 @@ module _ (f : Item → ℕ) (m k sum whole : ℕ) (xs : List Item) where
   sum_taken x within is has before =
       let row = chosen_from m (k + 1) (drop (k + 1) xs) in
       let now : sum_by f (chosen_from m k (drop k xs)) ≡ f x + sum_by f row =
-      ap (sum_by f) (chosen_more m k xs x within is ∙ cond-true (holds m k) _ _ has) ∙ sum_by-cons f x row in
+      ap (sum_by f) (chosen-more m k xs x within is ∙ cond-true (holds m k) _ _ has) ∙ sum_by-cons f x row in
       omega arith
 
   pub sum_skipped : (x : Item) → k < length xs → x ≡ get_or xs k x → holds m k ≡ false → sum + sum_by f (chosen_from m k (drop k xs)) ≡ whole → sum + sum_by f (chosen_from m (k + 1) (drop (k + 1) xs)) ≡ whole
   sum_skipped x within is has before =
       let row = chosen_from m (k + 1) (drop (k + 1) xs) in
       let now : sum_by f (chosen_from m k (drop k xs)) ≡ sum_by f row =
-      ap (sum_by f) (chosen_more m k xs x within is ∙ cond-false (holds m k) _ _ has) in
+      ap (sum_by f) (chosen-more m k xs x within is ∙ cond-false (holds m k) _ _ has) in
       omega arith
 
   pub sum_all : length xs ≤ k → sum + sum_by f (chosen_from m k (drop k xs)) ≡ whole → sum ≡ whole

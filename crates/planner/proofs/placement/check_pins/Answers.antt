@@ -1,5 +1,5 @@
 use Rattle.std.proofs.Common.{sym, refl, ◌∙◌}
-use Rattle.chain.proofs.Firsts.{left-all, left_passed, left-stands}
+use Rattle.chain.proofs.Firsts.{left-all, left-passed, left-stands}
 use Rattle.planner.specs.Placement.{described, pin_refusal}
 use Rattle.planner.proofs.placement.check_pins.Goals as goal
 
@@ -10,7 +10,7 @@ returns-then-is_some c =
 
 pub loop-stage-preserved : goal.loop-stage-preserved
 loop-stage-preserved c =
-    left_passed (pin_refusal c.args.boards) c.args.stages.now c.loop-stage.stage-index _ _ c.loop-stage-test.true refl described c.check_pin-why.result c.check_pin-why.ensures (sym c.if-is_some.ensures)
+    left-passed (pin_refusal c.args.boards) c.args.stages.now c.loop-stage.stage-index _ _ c.loop-stage-test.true refl described c.check_pin-why.result c.check_pin-why.ensures (sym c.if-is_some.ensures)
     ∙ c.loop-stage.invariant
 
 pub returns : goal.returns

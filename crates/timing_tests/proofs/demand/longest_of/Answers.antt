@@ -1,7 +1,7 @@
 use Rattle.std.proofs.Common.{◌≡◌, ◌+◌, max, drop, sym, ap, ◌∙◌, arith}
 use Rattle.std.proofs.lemmas.Bool.{cond-true, cond-false}
 use Rattle.timing.specs.Places.{chosen_from, holds}
-use Rattle.timing.proofs.Choosing.{chosen-all, chosen_more}
+use Rattle.timing.proofs.Choosing.{chosen-all, chosen-more}
 use Rattle.timing_tests.specs.Demand.{longest}
 use Rattle.timing_tests.proofs.demand.longest_of.Goals as goal
 use Rattle.timing_tests.proofs.demand.longest_of.Goals.{then-has, else-has}
@@ -15,7 +15,7 @@ loop-item-preserved c =
     let inv = c.loop-item.invariant in
     let row = chosen_from m (k + 1) (drop (k + 1) xs) in
     let here : c.has.result ≡ holds m k = c.has.ensures.held ∙ ap (holds m) inv.0 in
-    let turn = chosen_more m k xs x c.loop-item-test.true c.item-item.is in
+    let turn = chosen-more m k xs x c.loop-item-test.true c.item-item.is in
     elim c.if-has.branch [
       | then-has w ↦
           let now : longest (chosen_from m k (drop k xs)) ≡ max x.length (longest row) =
