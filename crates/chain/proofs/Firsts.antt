@@ -1,17 +1,7 @@
 -- The first refusal in a row of conditions, as a loop goes through the row.
-use Rattle.std.proofs.Common.{◌≡◌, ℕ, zero, suc, ◌+◌, ◌<◌, ◌≤◌, true, false, List, [], ◌∷◌, map, length, get_or, drop, is_some, Some, None, Option, sym, refl, ap, ◌∙◌, arith}
+use Rattle.std.proofs.Common.{◌≡◌, ℕ, zero, suc, ◌+◌, ◌<◌, ◌≤◌, List, [], ◌∷◌, map, length, get_or, drop, Some, None, Option, sym, refl, ap, ◌∙◌, arith}
 use Rattle.std.proofs.lemmas.List.{at_drop_all, at_drop_more}
-use Rattle.std.specs.Option.{option_map}
 use Rattle.chain.specs.Refusals.{Described, first_of}
-
--- a condition that stands is the first; one that does not is passed over
-stands : {R : Type 0} (described : R → Described) (why : Option R) (later : List (Option Described)) → is_some why ≡ true → first_of (option_map described why ∷ later) ≡ option_map described why
-stands described (Some r) later h = refl
-stands described None later h = let z : ◌≡◌ {A = ℕ} 0 1 = cc in absurd (omega arith)
-
-passed : {R : Type 0} (described : R → Described) (why : Option R) (later : List (Option Described)) → is_some why ≡ false → first_of (option_map described why ∷ later) ≡ first_of later
-passed described (Some r) later h = let z : ◌≡◌ {A = ℕ} 0 1 = cc in absurd (omega arith)
-passed described None later h = refl
 
 -- a loop over xs that checks a condition for each element
 module _ {X : Type 0} (condition : X → Option Described) (xs : List X) where
@@ -23,19 +13,17 @@ module _ {X : Type 0} (condition : X → Option Described) (xs : List X) where
   left-all k h = at_drop_all (λ ys. first_of (map condition ys)) xs k h
 
   module _ (k : ℕ) (x d : X) (inside : k < length xs) (is : x ≡ get_or xs k d) where
-    step : left k ≡ first_of (condition x ∷ map condition (drop (k + 1) xs))
+    pub step : left k ≡ first_of (condition x ∷ map condition (drop (k + 1) xs))
     step =
         at_drop_more (λ ys. first_of (map condition ys)) xs k d inside
         ∙ ap (λ y. first_of (condition y ∷ map condition (drop (k + 1) xs))) (sym is)
 
-    module _ {R : Type 0} (described : R → Described) (why : Option R) (checked : option_map described why ≡ condition x) where
-      pub left-stands : is_some why ≡ true → option_map described why ≡ left k
-      left-stands some =
-          sym (step ∙ ap (λ o. first_of (o ∷ map condition (drop (k + 1) xs))) (sym checked) ∙ stands described why (map condition (drop (k + 1) xs)) some)
+    -- a condition that stands is the first; one that does not is passed over
+    pub left-stands : (why : Described) → condition x ≡ Some why → left k ≡ Some why
+    left-stands why stands = step ∙ ap (λ o. first_of (o ∷ map condition (drop (k + 1) xs))) stands
 
-      pub left-passed : is_some why ≡ false → left (k + 1) ≡ left k
-      left-passed none =
-          sym (step ∙ ap (λ o. first_of (o ∷ map condition (drop (k + 1) xs))) (sym checked) ∙ passed described why (map condition (drop (k + 1) xs)) none)
+    pub left-passed : condition x ≡ None → left (k + 1) ≡ left k
+    left-passed none = sym (step ∙ ap (λ o. first_of (o ∷ map condition (drop (k + 1) xs))) none)
 
 -- where no refusal is found, no condition stands
 pub none_first : (o : Option Described) (later : List (Option Described)) → first_of (o ∷ later) ≡ None → (o ≡ None) × (first_of later ≡ None)

@@ -4,6 +4,8 @@ use Rattle.chain.specs.declared.stages.Pin.{Pin}
 use Rattle.chain.specs.declared.stages.Pin.TheVariants.{Free, Board}
 use Rattle.chain.specs.declared.stages.Stage.{Stage}
 use Rattle.chain.specs.declared.chains.Chain.{Chain}
+use Rattle.chain.specs.declared.headings.Heading.{Heading}
+use Rattle.chain.specs.declared.refusals.DraftRefusal.{DraftRefusal}
 use Rattle.chain.specs.declared.drafts.AwaitingStage.{AwaitingStage}
 use Rattle.chain.specs.declared.drafts.AwaitingMessage.{AwaitingMessage}
 use Rattle.chain.specs.declared.drafts.GivenBack.{GivenBack}
@@ -20,15 +22,19 @@ pub record Contents : Type 0 where
   pub stages : List Stage
   pub messages : List ℕ
 
+-- what a chain says, given its heading and its rows
+abbrev pub says : Heading → List Stage → List ℕ → Contents
+says h stages messages = record { name = h.name; period = h.period; deadline = h.deadline; stages = stages; messages = messages }
+
 module _ {S B : ℕ} where
+  abbrev pub contents : Chain S B → Contents
+  contents c = says c.heading (vec_items c.stages) (vec_items c.messages)
+
   abbrev pub waiting : AwaitingStage S B → Contents
-  waiting d = record { name = d.name; period = d.period; deadline = d.deadline; stages = vec_items d.stages; messages = vec_items d.messages }
+  waiting d = says d.heading (vec_items d.stages) (vec_items d.messages)
 
   abbrev pub staged : AwaitingMessage S B → Contents
-  staged d = record { name = d.name; period = d.period; deadline = d.deadline; stages = vec_items d.stages; messages = vec_items d.messages }
-
-  abbrev pub contents : Chain S B → Contents
-  contents c = record { name = c.name; period = c.period; deadline = c.deadline; stages = vec_items c.stages; messages = vec_items c.messages }
+  staged d = contents d.chain
 
 -- a pin as it is written: 0 leaves the stage free
 abbrev pub pin_of : ℕ → Pin
@@ -56,6 +62,12 @@ stage_refusal boards pin l = first_of (unless (nat_le pin boards) (numbered 3 (p
 
 abbrev pub message_refusal : (most stages length : ℕ) → Option Described
 message_refusal most stages l = first_of (unless (nat_lt stages most) (numbered 4 []) ∷ length_refusal l ∷ [])
+
+-- The answer of making a heading: one of just these numbers where nothing is wrong with them.
+abbrev pub Headed : (name period deadline : ℕ) → Result Heading DraftRefusal → Type 0
+Headed name period deadline (Ok h) =
+    (start_refusal name period deadline ≡ None) × (h.name ≡ name) × (h.period ≡ period) × (h.deadline ≡ deadline)
+Headed name period deadline (Err why) = start_refusal name period deadline ≡ Some (described why)
 
 -- The answer of a drafting call on a draft, `why` being what is wrong with its numbers: a next
 -- draft with P where nothing is; else just that refusal, and the draft as it was.

@@ -1,20 +1,17 @@
 // A finished chain. Its fields may be read by anyone; its limits stand in its type.
 ghost use Rattle.std.specs.Prelude.{◌≡◌, ◌+◌, ◌≤◌, max, true, vec_len};
-ghost use Rattle.chain.specs.Limits.{all_kept, length_kept, stage_kept, times_kept};
+ghost use Rattle.chain.specs.Limits.{all_kept, length_kept, stage_kept};
 
+use super::headings::Heading;
 use super::stages::Stage;
 
 // A chain of at most `S` stages, with pins to boards 1 to `B`: message k stands between the
 // stages k and k + 1.
 #[derive(Drop)]
 pub struct Chain<const S: usize, const B: u8> {
-    pub name: u16,
-    pub period: u32,
-    pub deadline: u32,
+    pub heading: Heading,
     pub stages: Vec<Stage>,
     pub messages: Vec<u32>,
-    ghost named: { 1 ≤ name },
-    ghost times: { times_kept period deadline ≡ true },
     ghost stages_kept: { all_kept (stage_kept B) stages.items ≡ true },
     ghost messages_kept: { all_kept length_kept messages.items ≡ true },
     ghost between: { vec_len messages + 1 ≡ vec_len stages },

@@ -7,6 +7,8 @@
 pub mod chains;
 pub mod drafting;
 pub mod drafts;
+pub mod headings;
+mod paces;
 pub mod parts;
 pub mod refusals;
 pub mod stages;
@@ -17,3 +19,6 @@ pub mod windows;
 pub const STAGES: usize = 6;
 
 pub const BOARDS: u8 = 4;
+
+// The longest period, and the longest stage or message.
+pub const MOST_TICKS: u32 = 1_000_000;

@@ -1,6 +1,16 @@
-// Why a drafting call says no.
+// Refusals: what each has, and why a drafting call says no.
 ghost use Rattle.std.specs.Prelude.{◌≡◌};
-ghost use Rattle.chain.specs.Refusals.{described};
+ghost use Rattle.chain.specs.Refusals.{Described, described as draft_described};
+
+// What refuses a call: it has a number in the table of refusals, and carries the values that are
+// wrong.
+pub trait Refusal {
+    ghost described: { Self → Described };
+
+    // The refusal's number in the table of refusals.
+    fn number(&self) -> u8
+        ensures { result ≡ (described self.now).number };
+}
 
 #[derive(Clone, Copy, Debug, PartialEq, Eq)]
 pub enum DraftRefusal {
@@ -11,11 +21,10 @@ pub enum DraftRefusal {
     NoName,
 }
 
-impl DraftRefusal {
-    // The refusal's number in the table of refusals.
-    pub fn number(&self) -> u8
-        ensures { result ≡ (described self.now).number }
-    {
+impl Refusal for DraftRefusal {
+    ghost described = { draft_described };
+
+    fn number(&self) -> u8 {
         match self {
             DraftRefusal::Times { .. } => 1,
             DraftRefusal::Length { .. } => 2,

@@ -9,11 +9,11 @@ pub enum Pin {
     Board(u8),
 }
 
-impl Pin {
-    // The pin that a number names: 0 leaves the stage free.
-    pub fn from_number(pin: u8) -> Pin
-        ensures { result ≡ pin_of pin }
-    {
+// The pin that a number names: 0 leaves the stage free.
+impl From<u8> for Pin {
+    ghost from_gives = { λ number pin. pin ≡ pin_of number };
+
+    fn from(pin: u8) -> Pin {
         if pin == 0 { Pin::Free } else { Pin::Board(pin) }
     }
 }

@@ -1,15 +1,12 @@
 -- What comes next in a file, from what is wrong with a record's bounds and with its body.
-use Rattle.std.proofs.Common.{◌≡◌, ℕ, suc, ◌+◌, ◌<◌, eqb, List, [], ◌∷◌, length, Some, None, Err, Option, refl, ap, ◌∙◌, arith}
+use Rattle.std.proofs.Common.{◌≡◌, ℕ, suc, ◌+◌, ◌<◌, eqb, List, [], ◌∷◌, length, Some, None, Option, refl, ap, ◌∙◌, arith}
 use Rattle.std.proofs.lemmas.Bool.{eq-eqb}
 use Rattle.std.proofs.lemmas.Bool.Decides.{nat_tests}
 use Rattle.chain.proofs.Firsts.{none_first}
 use Rattle.chain.specs.Drafting.{Contents}
 use Rattle.chain.specs.Refusals.{Described, first_of, numbered, unless}
-use Rattle.chain_file.specs.declared.readers.ReadError.{ReadError}
-use Rattle.chain_file.specs.declared.readers.ReadError.TheVariants.{Refused, NoMemory}
 use Rattle.chain_file.specs.Fields.{head, rest, said}
 use Rattle.chain_file.specs.Format.{after_record, body, body_refusal, body_size, chain, cut_refusal, fields_refusal, held_by, most_chains, next, record_refusal, records, unless_refused}
-use Rattle.chain_file.specs.Steps.{Records, Tells}
 
 -- where the first of two conditions does not stand
 second_decides : (a b : Option Described) → a ≡ None → first_of (a ∷ b ∷ []) ≡ b
@@ -39,10 +36,9 @@ body_by_fields bs right =
     let wrong = numbered 15 (length bs ∷ []) in
     second_decides (unless (eqb (body_size (head bs).stages) (length bs)) wrong) (fields_refusal (head bs) (rest bs)) (ap (λ b. unless b wrong) (eq-eqb (body_size (head bs).stages) (length bs) right))
 
--- want of memory, and what is wrong with a body, are passed on
-pub body_error : (read : ℕ) (bs : List ℕ) (e : ReadError) → 0 < length bs → cut_refusal read bs ≡ None → Tells read (body bs) (Err e) → Records read bs (Err e)
-body_error read bs (Refused r) some right told = (next-by_body read bs some right ∙ ap (λ o. unless_refused o bs) told.0, told.1)
-body_error read bs NoMemory some right told = (said (head (body bs)) (rest (body bs)), after_record bs, next-by_body read bs some right ∙ ap (λ o. unless_refused o bs) told)
+-- a record that is right in its bounds and in its body gives its chain
+pub next-chain : (read : ℕ) (bs : List ℕ) → 0 < length bs → cut_refusal read bs ≡ None → body_refusal (body bs) ≡ None → next read bs ≡ chain (said (head (body bs)) (rest (body bs))) (after_record bs)
+next-chain read bs some right fine = next-by_body read bs some right ∙ ap (λ o. unless_refused o bs) fine
 
 -- a chain comes next only where nothing is refused, so where sixteen have not been read
 chain_unrefused : (o : Option Described) (bs later : List ℕ) (c : Contents) → unless_refused o bs ≡ chain c later → o ≡ None

@@ -1,15 +1,18 @@
 // The fields of a record's body: read off their places, and checked in their order.
-ghost use Rattle.std.specs.Prelude.{◌≡◌, ◌+◌, ◌-◌, ◌*◌, ◌<◌, ◌≤◌, length, IfOk, None, MatchOption};
+ghost use Rattle.std.specs.Prelude.{◌≡◌, ◌+◌, ◌/◌, ◌%◌, ◌<◌, ◌≤◌, length, IfOk, None, MatchOption};
 ghost use Rattle.std.specs.Option.{option_map};
+ghost use Rattle.std.specs.Result.{result_err};
 ghost use Rattle.chain.specs.Drafting.{contents};
 ghost use Rattle.chain.specs.Limits.{most_stages};
 ghost use Rattle.chain.specs.Refusals.{described};
-ghost use Rattle.chain_file.specs.Fields.{four, head, message_length, pin, rest, said, stage_length};
-ghost use Rattle.chain_file.specs.Format.{fields_refusal, rows_refusal, stage_row_refusal};
+ghost use Rattle.chain_file.specs.Fields.{head, message_length, pin, rest, stage_length};
+ghost use Rattle.chain_file.specs.Format.{rows_refusal, stage_row_refusal};
+ghost use Rattle.chain_file.specs.Steps.{said_by, stages_in};
 
 use chain::chains::Chain;
-use chain::drafting::{check_length, check_stage, check_start};
+use chain::drafting::{check_length, check_stage};
 use chain::drafts::AwaitingStage;
+use chain::headings::Heading;
 use chain::refusals::DraftRefusal;
 use chain::{BOARDS, STAGES};
 use std::alloc::{AllocError, Global};
@@ -41,95 +44,80 @@ pub(super) fn split_body(body: &[u8]) -> Option<(Head, &[u8])>
     Some((head, rest))
 }
 
-// The number in the four bytes from a place on.
-fn number_at(bytes: &[u8], at: usize) -> u32
-    requires { at + 4 ≤ length bytes.now }
-    ensures { result ≡ four bytes.now at }
+// The pin and the length of the stage that stands first in a row.
+fn stage_in(row: &[u8]) -> (u8, u32)
+    requires { 5 ≤ length row.now }
+    ensures pin { result.0 ≡ pin row.now 0 }
+    ensures length { result.1 ≡ stage_length row.now 0 }
 {
-    u32::from_be_bytes([bytes[at], bytes[at + 1], bytes[at + 2], bytes[at + 3]])
-}
-
-// The pin and the length of stage `k`, counting from 0.
-fn stage_at(rest: &[u8], k: usize) -> (u8, u32)
-    requires { 9 * k + 5 ≤ length rest.now }
-    ensures pin { result.0 ≡ pin rest.now k }
-    ensures length { result.1 ≡ stage_length rest.now k }
-{
-    (rest[9 * k], number_at(rest, 9 * k + 1))
-}
-
-// The length of the message after stage `k`.
-fn message_at(rest: &[u8], k: usize) -> u32
-    requires { 9 * k + 9 ≤ length rest.now }
-    ensures { result ≡ message_length rest.now k }
-{
-    number_at(rest, 9 * k + 5)
-}
-
-// What is wrong with stage `k` of `n`, or with the message after it, if anything.
-fn check_row(n: usize, rest: &[u8], k: usize) -> Option<DraftRefusal>
-    requires inside { k < n }
-    requires size { length rest.now + 4 ≡ 9 * n }
-    ensures { option_map described result ≡ stage_row_refusal n rest.now k }
-{
-    let (pin, length) = stage_at(rest, k);
-    let why = check_stage(BOARDS, pin, length);
-    if why.is_none() && k + 1 < n {
-        check_length(message_at(rest, k))
-    } else {
-        why
-    }
-}
-
-// What is wrong with the stages and messages, if anything.
-fn check_rows(n: usize, rest: &[u8]) -> Option<DraftRefusal>
-    requires { length rest.now + 4 ≡ 9 * n }
-    ensures { option_map described result ≡ rows_refusal n rest.now }
-{
-    for k in 0..n {
-        let why = check_row(n, rest, k);
-        if why.is_some() {
-            return why;
-        }
-    }
-    None
-}
-
-// What is wrong with the fields of a body, if anything.
-pub(super) fn check_fields(head: &Head, rest: &[u8]) -> Option<DraftRefusal>
-    requires { length rest.now + 4 ≡ 9 * head.now.stages }
-    ensures { option_map described result ≡ fields_refusal head.now rest.now }
-{
-    let why = check_start(head.name, head.period, head.deadline);
-    if why.is_some() {
-        return why;
-    }
-    check_rows(usize::from(head.stages), rest)
-}
-
-// The chain that a checked body says. Only memory can be wanting.
-pub(super) fn build(heap: Global, head: &Head, rest: &[u8]) -> Result<FileChain, AllocError>
-    requires checked { fields_refusal head.now rest.now ≡ None }
-    requires size { length rest.now + 4 ≡ 9 * head.now.stages }
-    requires few { head.now.stages ≤ most_stages }
-    ensures { IfOk result (λ c. contents c ≡ said head.now rest.now) }
-{
-    let Ok(draft) = AwaitingStage::start(heap, head.name, head.period, head.deadline) else {
-        return Err(AllocError);
+    let [pin, l0, l1, l2, l3, ..] = row else {
+        unreachable!()
     };
-    let (pin, length) = stage_at(rest, 0);
-    let Ok(mut draft) = draft.stage(pin, length) else {
-        unreachable()
-    };
-    for k in 1..usize::from(head.stages) {
-        let Ok(waiting) = draft.message(message_at(rest, k - 1)) else {
-            unreachable()
-        };
-        let (pin, length) = stage_at(rest, k);
-        let Ok(staged) = waiting.stage(pin, length) else {
-            unreachable()
-        };
-        draft = staged;
+    (*pin, u32::from_be_bytes([*l0, *l1, *l2, *l3]))
+}
+
+// The length of the message after it.
+fn message_in(row: &[u8; 9]) -> u32
+    ensures { result ≡ message_length row.now 0 }
+{
+    let [.., m0, m1, m2, m3] = row;
+    u32::from_be_bytes([*m0, *m1, *m2, *m3])
+}
+
+// Refuses a row's stage, and the message after it, that are outside the limits: the first of two.
+fn check_row(row: &[u8; 9]) -> Result<(), DraftRefusal>
+    ensures { option_map described (result_err result) ≡ stage_row_refusal 2 row.now 0 }
+{
+    let (pin, length) = stage_in(row);
+    check_stage(BOARDS, pin, length)?;
+    check_length(message_in(row))
+}
+
+// Refuses the last row's stage where it is outside the limits: an only one.
+fn check_last(row: &[u8]) -> Result<(), DraftRefusal>
+    requires { 5 ≤ length row.now }
+    ensures { option_map described (result_err result) ≡ stage_row_refusal 1 row.now 0 }
+{
+    let (pin, length) = stage_in(row);
+    check_stage(BOARDS, pin, length)
+}
+
+// Refuses stages and messages that are outside the limits. Each stage but the last has a row of
+// nine bytes.
+pub(super) fn check_rows(rest: &[u8]) -> Result<(), DraftRefusal>
+    requires { length rest.now % 9 ≡ 5 }
+    ensures { option_map described (result_err result) ≡ rows_refusal (stages_in rest.now) rest.now }
+{
+    let (rows, last) = rest.as_chunks::<9>();
+    for row in rows {
+        check_row(row)?;
     }
-    Ok(draft.finish())
+    check_last(last)
+}
+
+// The chain with a heading and with stages and messages that are checked. Only memory can be
+// wanting.
+pub(super) fn build(heap: Global, heading: Heading, rest: &[u8]) -> Result<FileChain, AllocError>
+    requires checked { rows_refusal (stages_in rest.now) rest.now ≡ None }
+    requires size { length rest.now % 9 ≡ 5 }
+    requires few { stages_in rest.now ≤ most_stages }
+    ensures { IfOk result (λ c. contents c ≡ said_by heading rest.now) }
+{
+    let (rows, last) = rest.as_chunks::<9>();
+    let mut draft = AwaitingStage::with_heading(heap, heading)?;
+    for row in rows {
+        let (pin, length) = stage_in(row);
+        let Ok(staged) = draft.stage(pin, length) else {
+            unreachable!()
+        };
+        let Ok(waiting) = staged.message(message_in(row)) else {
+            unreachable!()
+        };
+        draft = waiting;
+    }
+    let (pin, length) = stage_in(last);
+    let Ok(staged) = draft.stage(pin, length) else {
+        unreachable!()
+    };
+    Ok(staged.finish())
 }

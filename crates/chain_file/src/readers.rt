@@ -1,5 +1,8 @@
 // A reader, and what its calls answer.
 use super::refusals::FileRefusal;
+use chain::refusals::Refusal;
+use std::alloc::AllocError;
+use std::fmt;
 
 // A chain file that is read record by record: `read` records are read, and `rest` is what is left.
 #[derive(Drop)]
@@ -9,7 +12,8 @@ pub struct Reader<'a> {
     pub rest: &'a [u8],
 }
 
-// A chain was put into its place, or the file is at its end.
+// A chain was put into its place, or the file is at its end. A call fills a place that the caller
+// has, and leaves it as it was otherwise, so the chain is not answered in an `Option`.
 #[derive(Clone, Copy, Debug, PartialEq, Eq)]
 pub enum Read {
     Chain,
@@ -23,9 +27,33 @@ pub struct RecordRefusal {
     pub why: FileRefusal,
 }
 
+impl fmt::Display for RecordRefusal {
+    ghost use Rattle.std.specs.Prelude.{Some};
+    ghost use Rattle.chain_file.specs.Refusals.{described, refusal_text};
+
+    ghost output = { λ refusal. Some (refusal_text (described refusal.why) refusal.at) };
+
+    fn fmt<W: fmt::Write>(&self, f: &mut fmt::Formatter<W>) -> fmt::Result {
+        let number = self.why.number();
+        let at = self.at;
+        write!(f, "file refused {number} record {at}")
+    }
+}
+
 // Why no record was read. Memory is wanted only where nothing is wrong with the record.
 #[derive(Clone, Copy, Debug, PartialEq, Eq)]
 pub enum ReadError {
     Refused(RecordRefusal),
     NoMemory,
+}
+
+impl From<AllocError> for ReadError {
+    ghost use Rattle.std.specs.Prelude.{◌≡◌};
+    ghost use Rattle.chain_file.specs.declared.readers.ReadError.TheVariants.{NoMemory};
+
+    ghost from_gives = { λ _ e. e ≡ NoMemory };
+
+    fn from(_e: AllocError) -> ReadError {
+        ReadError::NoMemory
+    }
 }

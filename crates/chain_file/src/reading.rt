@@ -1,14 +1,13 @@
 // Reading a chain file, record by record.
 ghost use Rattle.std.specs.Prelude.{◌≡◌, ◌+◌, ◌<◌, true, length, nat_lt};
-ghost use Rattle.std.specs.Option.{option_map};
-ghost use Rattle.chain_file.specs.Format.{body_size, header_refusal, most_chains, size_kept};
+ghost use Rattle.chain_file.specs.Format.{body_size, most_chains, size_kept};
 ghost use Rattle.chain_file.specs.Reading.{Opens, Reads};
-ghost use Rattle.chain_file.specs.Refusals.{described};
-ghost use Rattle.chain_file.specs.Steps.{Cuts, Records, Tells};
+ghost use Rattle.chain_file.specs.Steps.{Checks, Cuts, Heads, RecordChecks, Records};
 
-use super::fields::{FileChain, build, check_fields, split_body};
+use super::fields::{FileChain, build, check_rows, split_body};
 use super::readers::{Read, ReadError, Reader, RecordRefusal};
 use super::refusals::FileRefusal;
+use chain::headings::Heading;
 use chain::{BOARDS, STAGES};
 use std::alloc::Global;
 
@@ -47,75 +46,82 @@ fn refuse(read: u8, why: FileRefusal) -> ReadError
     ReadError::Refused(RecordRefusal { at, why })
 }
 
-// Cuts a record into its body and the bytes after it.
-fn cut(read: u8, bytes: &[u8]) -> Result<(&[u8], &[u8]), ReadError>
+// Cuts the record after `read` others into its body and the bytes after it.
+fn cut(read: u8, bytes: &[u8]) -> Result<(&[u8], &[u8]), FileRefusal>
     ensures { Cuts read bytes.now result }
 {
     if !has_room(read) {
-        return Err(refuse(read, FileRefusal::TooManyChains));
+        return Err(FileRefusal::TooManyChains);
     }
     let [high, low, rest @ ..] = bytes else {
-        return Err(refuse(read, FileRefusal::TooShort));
+        return Err(FileRefusal::TooShort);
     };
     let length = u16::from_be_bytes([*high, *low]);
     let size = usize::from(length);
     if !is_body_size(size) {
-        return Err(refuse(read, FileRefusal::RecordSize { length }));
+        return Err(FileRefusal::RecordSize { length });
     }
     if rest.len() < size {
-        return Err(refuse(read, FileRefusal::TooShort));
+        return Err(FileRefusal::TooShort);
     }
     Ok(rest.split_at(size))
 }
 
-// The chain that a body says. It is checked whole before memory is taken for it.
-fn read_body(heap: Global, read: u8, body: &[u8]) -> Result<FileChain, ReadError>
+// The heading of the chain that a body says, and the bytes of its stages: all is checked.
+fn check_body(body: &[u8]) -> Result<(Heading, &[u8]), FileRefusal>
     requires { size_kept (length body.now) ≡ true }
-    ensures { Tells read body.now result }
+    ensures { Checks body.now result }
 {
     let Some((head, rest)) = split_body(body) else {
-        unreachable()
+        unreachable!()
     };
     if body_size(usize::from(head.stages)) != body.len() {
         let length = body.len() as u16;
-        return Err(refuse(read, FileRefusal::RecordSize { length }));
+        return Err(FileRefusal::RecordSize { length });
     }
-    if let Some(why) = check_fields(&head, rest) {
-        return Err(refuse(read, FileRefusal::Field(why)));
-    }
-    match build(heap, &head, rest) {
-        Ok(chain) => Ok(chain),
-        Err(_) => Err(ReadError::NoMemory),
-    }
+    let heading = Heading::new(head.name, head.period, head.deadline)?;
+    check_rows(rest)?;
+    Ok((heading, rest))
 }
 
-// The chain of the record that stands first in `bytes`, and the bytes after it.
+// The heading of the chain that the first record in `bytes` says, the bytes of its stages, and the
+// bytes after the record: all of it is checked.
+fn check_record(read: u8, bytes: &[u8]) -> Result<(Heading, &[u8], &[u8]), FileRefusal>
+    ensures { RecordChecks read bytes.now result }
+{
+    let (body, rest) = cut(read, bytes)?;
+    let (heading, stages) = check_body(body)?;
+    Ok((heading, stages, rest))
+}
+
+// The chain of the record that stands first in `bytes`, and the bytes after it. The record is
+// checked whole before memory is taken for its chain.
 fn read_record(heap: Global, read: u8, bytes: &[u8]) -> Result<(FileChain, &[u8]), ReadError>
     requires { 0 < length bytes.now }
     ensures { Records read bytes.now result }
 {
-    let (body, rest) = cut(read, bytes)?;
-    let chain = read_body(heap, read, body)?;
+    let (heading, stages, rest) = check_record(read, bytes).map_err(|why| refuse(read, why))?;
+    let chain = build(heap, heading, stages)?;
     Ok((chain, rest))
 }
 
-// What is wrong with a file's first two bytes, if anything.
-fn check_header(bytes: &[u8]) -> Option<FileRefusal>
-    ensures { option_map described result ≡ header_refusal bytes.now }
+// The board count in a file's header, its first two bytes, and the bytes after it.
+fn read_header(bytes: &[u8]) -> Result<(u8, &[u8]), FileRefusal>
+    ensures { Heads bytes.now result }
 {
-    if bytes.is_empty() {
-        return Some(FileRefusal::TooShort);
+    let [version, rest @ ..] = bytes else {
+        return Err(FileRefusal::TooShort);
+    };
+    if *version != VERSION {
+        return Err(FileRefusal::Version { version: *version });
     }
-    if bytes[0] != VERSION {
-        return Some(FileRefusal::Version { version: bytes[0] });
+    let [boards, records @ ..] = rest else {
+        return Err(FileRefusal::TooShort);
+    };
+    if *boards < 1 || *boards > BOARDS {
+        return Err(FileRefusal::Boards { boards: *boards });
     }
-    if bytes.len() < 2 {
-        return Some(FileRefusal::TooShort);
-    }
-    if bytes[1] < 1 || bytes[1] > BOARDS {
-        return Some(FileRefusal::Boards { boards: bytes[1] });
-    }
-    None
+    Ok((*boards, records))
 }
 
 impl<'a> Reader<'a> {
@@ -123,12 +129,9 @@ impl<'a> Reader<'a> {
     pub fn open(bytes: &'a [u8]) -> Result<Reader<'a>, RecordRefusal>
         ensures { Opens bytes.now result }
     {
-        if let Some(why) = check_header(bytes) {
-            return Err(RecordRefusal { at: 0, why });
-        }
-        let (header, rest) = bytes.split_at(2);
+        let (boards, rest) = read_header(bytes).map_err(|why| RecordRefusal { at: 0, why })?;
         Ok(Reader {
-            boards: header[1],
+            boards,
             read: 0,
             rest,
         })

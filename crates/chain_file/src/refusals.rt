@@ -1,8 +1,9 @@
 // Why a chain file is refused.
 ghost use Rattle.std.specs.Prelude.{◌≡◌};
-ghost use Rattle.chain_file.specs.Refusals.{described};
+ghost use Rattle.chain_file.specs.declared.refusals.FileRefusal.TheVariants.{Field};
+ghost use Rattle.chain_file.specs.Refusals.{described as file_described};
 
-use chain::refusals::DraftRefusal;
+use chain::refusals::{DraftRefusal, Refusal};
 
 #[derive(Clone, Copy, Debug, PartialEq, Eq)]
 pub enum FileRefusal {
@@ -14,11 +15,10 @@ pub enum FileRefusal {
     Field(DraftRefusal),
 }
 
-impl FileRefusal {
-    // The refusal's number in the table of refusals.
-    pub fn number(&self) -> u8
-        ensures { result ≡ (described self.now).number }
-    {
+impl Refusal for FileRefusal {
+    ghost described = { file_described };
+
+    fn number(&self) -> u8 {
         match self {
             FileRefusal::Boards { .. } => 5,
             FileRefusal::Version { .. } => 13,
@@ -27,5 +27,13 @@ impl FileRefusal {
             FileRefusal::TooManyChains => 16,
             FileRefusal::Field(why) => why.number(),
         }
+    }
+}
+
+impl From<DraftRefusal> for FileRefusal {
+    ghost from_gives = { λ why e. e ≡ Field why };
+
+    fn from(why: DraftRefusal) -> FileRefusal {
+        Self::Field(why)
     }
 }

@@ -1,7 +1,8 @@
 // Drafting: each refusal at its smallest example, and what is left after it.
 use chain::chains::Chain;
 use chain::drafts::{AwaitingMessage, AwaitingStage, StartError};
-use chain::refusals::DraftRefusal;
+use chain::headings::Heading;
+use chain::refusals::{DraftRefusal, Refusal};
 use chain::stages::Pin;
 use chain::{BOARDS, STAGES};
 use std::alloc::Global;
@@ -24,17 +25,15 @@ fn started(heap: Global) -> Result<Waiting, Fail> {
 }
 
 fn stage(draft: Waiting, pin: u8, length: u32) -> Result<Staged, Fail> {
-    match draft.stage(pin, length) {
-        Ok(next) => Ok(next),
-        Err(_) => Err(Fail::new("a stage was refused")),
-    }
+    draft
+        .stage(pin, length)
+        .map_err(|_| Fail::new("a stage was refused"))
 }
 
 fn message(draft: Staged, length: u32) -> Result<Waiting, Fail> {
-    match draft.message(length) {
-        Ok(next) => Ok(next),
-        Err(_) => Err(Fail::new("a message was refused")),
-    }
+    draft
+        .message(length)
+        .map_err(|_| Fail::new("a message was refused"))
 }
 
 #[test]
@@ -76,9 +75,9 @@ fn a_pin_above_4_is_refused_before_the_length(rt: HostRuntime) -> Result<(), Fai
     assert_eq!(rt; back.why, DraftRefusal::PinAbove { pin: 5 });
     assert_eq!(rt; back.why.number(), 3);
     let chain = stage(back.draft, 4, 3)?.finish();
-    assert_eq!(rt; chain.name, 7);
-    assert_eq!(rt; chain.period, 20);
-    assert_eq!(rt; chain.deadline, 12);
+    assert_eq!(rt; chain.heading.name, 7);
+    assert_eq!(rt; chain.heading.period, 20);
+    assert_eq!(rt; chain.heading.deadline, 12);
     assert!(rt; chain.stages.len() == 1);
     assert_eq!(rt; chain.stages[0].pin, Pin::Board(4));
     assert_eq!(rt; chain.stages[0].length, 3);
@@ -125,5 +124,17 @@ fn a_message_on_six_stages_is_refused_before_its_length(rt: HostRuntime) -> Resu
     let chain: Chain<STAGES, BOARDS> = back.draft.finish();
     assert_eq!(rt; chain.stages.len(), 6);
     assert_eq!(rt; chain.messages.len(), 5);
+    Ok(())
+}
+
+// A heading that is checked starts the draft that its numbers start.
+#[test]
+fn a_heading_starts_a_draft(rt: HostRuntime) -> Result<(), Fail> {
+    let heading = Heading::new(7, 20, 12)?;
+    let draft = Waiting::with_heading(rt.alloc(), heading)?;
+    assert_eq!(rt; draft.heading, started(rt.alloc())?.heading);
+    let chain = stage(draft, 0, 3)?.finish();
+    assert_eq!(rt; chain.heading, heading);
+    assert!(rt; chain.stages.len() == 1);
     Ok(())
 }

@@ -1,5 +1,5 @@
 // Chain files: each refusal at its smallest example, where it comes and what it leaves.
-use chain::refusals::DraftRefusal;
+use chain::refusals::{DraftRefusal, Refusal};
 use chain_file::fields::FileChain;
 use chain_file::readers::{Read, ReadError, Reader, RecordRefusal};
 use chain_file::refusals::FileRefusal;
@@ -13,10 +13,7 @@ const RECORD: &[u8; 18] = b"\
     \x01\x00\x00\x00\x02";
 
 fn refused_header(bytes: &[u8]) -> Option<RecordRefusal> {
-    match Reader::open(bytes) {
-        Ok(_) => None,
-        Err(refusal) => Some(refusal),
-    }
+    Reader::open(bytes).err()
 }
 
 // The refusal of the first record behind a good header.
@@ -149,9 +146,7 @@ fn a_byte_after_record_16_is_refused(rt: HostRuntime) -> Result<(), Fail> {
         bytes.extend_from_slice(RECORD)?;
     }
     bytes.push(9)?;
-    let Ok(mut reader) = Reader::open(bytes.as_slice()) else {
-        return Err(Fail::new("refused header"));
-    };
+    let mut reader = Reader::open(bytes.as_slice())?;
     assert_eq!(rt; reader.boards, 2);
     let mut place = None;
     for _ in 0..16u8 {
@@ -185,11 +180,9 @@ fn the_end_touches_nothing(rt: HostRuntime) -> Result<(), Fail> {
     assert_eq!(rt; reader.next(heap, &mut place), Ok(Read::Chain));
     assert_eq!(rt; reader.next(heap, &mut place), Ok(Read::End));
     assert_eq!(rt; reader.read, 1);
-    let Some(chain) = place else {
-        return Err(Fail::new("the place was emptied"));
-    };
-    assert_eq!(rt; chain.name, 1);
-    assert_eq!(rt; chain.deadline, 12);
+    let chain = place.ok_or_else(|| Fail::new("the place was emptied"))?;
+    assert_eq!(rt; chain.heading.name, 1);
+    assert_eq!(rt; chain.heading.deadline, 12);
     assert_eq!(rt; chain.stages.len(), 1);
     Ok(())
 }

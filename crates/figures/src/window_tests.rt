@@ -9,29 +9,16 @@ use std::test::Fail;
 // Stages of 10, 1 and 9 with messages of 1 and 2 between them.
 fn three_stages(heap: Global, deadline: u32) -> Result<Chain<STAGES, BOARDS>, Fail> {
     let draft = AwaitingStage::start(heap, 1, 100, deadline)?;
-    let Ok(draft) = draft.stage(1, 10) else {
-        return Err(Fail::new("stage 1"));
-    };
-    let Ok(draft) = draft.message(1) else {
-        return Err(Fail::new("message 1"));
-    };
-    let Ok(draft) = draft.stage(1, 1) else {
-        return Err(Fail::new("stage 2"));
-    };
-    let Ok(draft) = draft.message(2) else {
-        return Err(Fail::new("message 2"));
-    };
-    let Ok(draft) = draft.stage(2, 9) else {
-        return Err(Fail::new("stage 3"));
-    };
+    let draft = draft.stage(1, 10).map_err(|_| Fail::new("stage 1"))?;
+    let draft = draft.message(1).map_err(|_| Fail::new("message 1"))?;
+    let draft = draft.stage(1, 1).map_err(|_| Fail::new("stage 2"))?;
+    let draft = draft.message(2).map_err(|_| Fail::new("message 2"))?;
+    let draft = draft.stage(2, 9).map_err(|_| Fail::new("stage 3"))?;
     Ok(draft.finish())
 }
 
 fn window(row: &PartRow<STAGES>, i: usize) -> u32 {
-    match row.parts.get(i) {
-        Some(part) => part.window,
-        None => 0,
-    }
+    row.parts.get(i).map_or(0, |part| part.window)
 }
 
 #[test]
@@ -44,9 +31,7 @@ fn a_sent_message_has_its_window(rt: HostRuntime) -> Result<(), Fail> {
     assert_eq!(rt; window(&row, 1), 3);
     assert_eq!(rt; window(&row, 2), 5);
     assert_eq!(rt; window(&row, 3), 24);
-    let Some(message) = row.parts.get(2) else {
-        return Err(Fail::new("no third part"));
-    };
+    let message = row.parts.get(2).ok_or_else(|| Fail::new("no third part"))?;
     assert_eq!(rt; message.part.place, Place::Bus);
     assert_eq!(rt; message.part.stage, 2);
     Ok(())

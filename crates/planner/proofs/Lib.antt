@@ -1,2 +1,1 @@
 pub mod ReaderTexts
-pub mod Texts

@@ -1,13 +1,19 @@
 -- What a reader has still to give, by what comes next in its file.
-use Rattle.std.proofs.Common.{◌≡◌, suc, ◌+◌, ◌-◌, ◌≤◌, [], ◌++◌, sym, ap, ◌∙◌, append_assoc, arith}
+use Rattle.std.proofs.Common.{◌≡◌, ℕ, suc, ◌+◌, ◌-◌, ◌≤◌, List, [], ◌++◌, Err, Option, sym, ap, ◌∙◌, append_assoc, arith}
 use Rattle.std.specs.List.{flat_map}
+use Rattle.chain.specs.declared.chains.Chain.{Chain}
 use Rattle.chain.specs.Drafting.{Contents}
+use Rattle.chain.specs.Limits.{most_boards, most_stages}
 use Rattle.chain.specs.Refusals.{Described}
 use Rattle.chain_file.proofs.Nexts.{records-step}
 use Rattle.chain_file.specs.declared.readers.Reader.{Reader}
+use Rattle.chain_file.specs.declared.readers.ReadError.{ReadError}
+use Rattle.chain_file.specs.declared.readers.ReadError.TheVariants.{Refused, NoMemory}
+use Rattle.chain_file.specs.Reading.{Reads}
+use Rattle.chain_file.specs.Refusals.{described}
 use Rattle.chain_file.specs.Format.{Next, chain, held_by, most_chains, next, records, refused, the_end}
 use Rattle.planner.specs.Printout.{chain_line, records_text, refusal_line, stop_text}
-use Rattle.planner.specs.Steps.{reader_text}
+use Rattle.planner.specs.Steps.{Ends, reader_text}
 
 module _ (r : Reader) (few : r.read ≤ most_chains) where
   look : reader_text r ≡ records_text r.boards (held_by r.read (next r.read r.rest.now) (records (most_chains - r.read) (r.read + 1)))
@@ -32,3 +38,11 @@ module _ (r : Reader) (few : r.read ≤ most_chains) where
       by_next (chain c s.rest.now) is
       ∙ append_assoc (chain_line r.boards c) (flat_map (chain_line r.boards) later.chains) (stop_text later.stop)
       ∙ ap (λ t. chain_line r.boards c ++ t) (λ i. records_text (sym same i) (records (steps i) (sym on i) s.rest.now))
+
+  -- what is printed and what is still to be, at a refusal or at want of memory
+  pub text_at_error : (s : Reader) (before after : Option (Chain most_stages most_boards)) (e : ReadError) → Reads r s before after (Err e) → (was whole : List ℕ) → was ++ reader_text r ≡ whole → Ends whole was (Err e)
+  text_at_error s before after (Refused e) told was whole all =
+      ap (λ n. was ++ refusal_line (record { at = n; why = described e.why })) told.1
+      ∙ ap (λ t. was ++ t) (sym (text_at_refusal (described e.why) told.0))
+      ∙ all
+  text_at_error s before after NoMemory told was whole all = tt

@@ -7,6 +7,7 @@ use Rattle.chain.specs.Parts.{parts, total}
 use Rattle.chain.specs.Refusals.{Described}
 use Rattle.chain.specs.Windows.{windows}
 use Rattle.chain_file.specs.Format.{Held, Stop, header_refusal, held}
+use Rattle.chain_file.specs.Refusals.{refusal_text}
 use Rattle.planner.specs.Placement.{first_boards, placement_refusal}
 
 abbrev pub newline : List ℕ
@@ -22,15 +23,18 @@ windows_text ws = codes " windows" ++ flat_map window_text ws
 abbrev pub placed_text : Contents → (boards : List ℕ) → List ℕ
 placed_text c boards = cond (nat_le (total (parts c boards)) c.deadline) (windows_text (windows c boards)) (codes " long")
 
+abbrev pub refused_text : Described → List ℕ
+refused_text why = codes "refused " ++ decimal why.number
+
 abbrev pub answer_text : Option Described → Contents → List ℕ
-answer_text (Some why) c = codes " refused " ++ decimal why.number
+answer_text (Some why) c = codes " " ++ refused_text why
 answer_text None c = placed_text c (first_boards c.stages)
 
 abbrev pub chain_line : (boards : ℕ) → Contents → List ℕ
 chain_line boards c = codes "chain " ++ (decimal c.name ++ (answer_text (placement_refusal boards c.stages) c ++ newline))
 
 abbrev pub refusal_line : Stop → List ℕ
-refusal_line s = codes "file refused " ++ (decimal s.why.number ++ (codes " record " ++ (decimal s.at ++ newline)))
+refusal_line s = refusal_text s.why s.at ++ newline
 
 abbrev pub stop_text : Option Stop → List ℕ
 stop_text None = []

@@ -7,7 +7,6 @@ mod printout;
 #[cfg(test)]
 mod tests;
 
-use anyhow::anyhow;
 use printout::report;
 use std::io::Read;
 
@@ -18,9 +17,6 @@ fn main(rt: HostRuntime) -> anyhow::Result<()> {
     let heap = rt.alloc();
     let mut bytes = Vec::new(heap);
     rt.stdin().take(MOST_BYTES).read_to_end(&mut bytes)?;
-    match report(heap, bytes.as_slice()) {
-        Ok(text) => rt.print(text)?,
-        Err(_) => return Err(anyhow!("no memory for the print-out")),
-    }
+    rt.print(report(heap, bytes.as_slice())?)?;
     Ok(())
 }

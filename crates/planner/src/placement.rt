@@ -1,10 +1,14 @@
 // The first allowed placement of a chain.
-ghost use Rattle.std.specs.Prelude.{◌≡◌, IfOk};
+ghost use Rattle.std.specs.Prelude.{◌≡◌, IfOk, Some};
 ghost use Rattle.std.specs.Option.{option_map};
-ghost use Rattle.planner.specs.Placement.{described, first_board, first_boards, pin_refusal, placement_refusal};
+ghost use Rattle.std.specs.Result.{result_err};
+ghost use Rattle.planner.specs.Printout.{refused_text};
+ghost use Rattle.planner.specs.Placement.{described as pin_described, first_board, first_boards, pin_refusal, placement_refusal};
 
+use chain::refusals::Refusal;
 use chain::stages::{Pin, Stage};
 use std::alloc::{AllocError, Global};
+use std::fmt;
 
 // Why a chain has no allowed placement.
 #[derive(Clone, Copy, Debug)]
@@ -12,38 +16,43 @@ pub enum PinRefusal {
     PinAbove { pin: u8 },
 }
 
-impl PinRefusal {
-    // The refusal's number in the table of refusals.
-    pub fn number(&self) -> u8
-        ensures { result ≡ (described self.now).number }
-    {
+impl Refusal for PinRefusal {
+    ghost described = { pin_described };
+
+    fn number(&self) -> u8 {
         match self {
             PinRefusal::PinAbove { .. } => 9,
         }
     }
 }
 
-// What is wrong with a stage's pin on boards 1 to `boards`, if anything.
-fn check_pin(boards: u8, stage: Stage) -> Option<PinRefusal>
-    ensures { option_map described result ≡ pin_refusal boards stage }
-{
-    match stage.pin {
-        Pin::Board(pin) if pin > boards => Some(PinRefusal::PinAbove { pin }),
-        _ => None,
+impl fmt::Display for PinRefusal {
+    ghost output = { λ why. Some (refused_text (pin_described why)) };
+
+    fn fmt<W: fmt::Write>(&self, f: &mut fmt::Formatter<W>) -> fmt::Result {
+        let number = self.number();
+        write!(f, "refused {number}")
     }
 }
 
-// What is wrong with the pins of a chain's stages, if anything.
-pub(super) fn check_pins(boards: u8, stages: &[Stage]) -> Option<PinRefusal>
-    ensures { option_map described result ≡ placement_refusal boards stages.now }
+// Refuses a stage whose pin is above the boards 1 to `boards`.
+fn check_pin(boards: u8, stage: Stage) -> Result<(), PinRefusal>
+    ensures { option_map pin_described (result_err result) ≡ pin_refusal boards stage }
+{
+    match stage.pin {
+        Pin::Board(pin) if pin > boards => Err(PinRefusal::PinAbove { pin }),
+        _ => Ok(()),
+    }
+}
+
+// Refuses a chain by the first of its stages whose pin is above the boards.
+pub(super) fn check_pins(boards: u8, stages: &[Stage]) -> Result<(), PinRefusal>
+    ensures { option_map pin_described (result_err result) ≡ placement_refusal boards stages.now }
 {
     for stage in stages {
-        let why = check_pin(boards, *stage);
-        if why.is_some() {
-            return why;
-        }
+        check_pin(boards, *stage)?;
     }
-    None
+    Ok(())
 }
 
 // The board of a stage in the first placement.
@@ -60,9 +69,8 @@ fn first_board(pin: Pin) -> u8
 pub(super) fn first_boards(heap: Global, stages: &[Stage]) -> Result<Vec<u8>, AllocError>
     ensures { IfOk result (λ v. v.items ≡ first_boards stages.now) }
 {
-    let mut boards = Vec::new(heap);
-    for stage in stages {
-        boards.push(first_board(stage.pin))?;
-    }
-    Ok(boards)
+    stages
+        .iter()
+        .map(|stage| first_board(stage.pin))
+        .collect(heap)
 }

@@ -2,21 +2,21 @@
 ghost use Rattle.std.specs.Prelude.{◌≡◌, ◌≤◌, ◌++◌, IfOk, string_bytes, OnOk};
 ghost use Rattle.chain.specs.Drafting.{contents};
 ghost use Rattle.chain_file.specs.Format.{most_chains};
-ghost use Rattle.chain_file.specs.Refusals.{described};
 ghost use Rattle.planner.specs.Placement.{placement_refusal};
-ghost use Rattle.planner.specs.Printout.{answer_text, chain_line, placed_text, printout, refusal_line, window_text, windows_text};
-ghost use Rattle.planner.specs.Steps.{Turns, reader_text};
+ghost use Rattle.planner.specs.Printout.{answer_text, chain_line, placed_text, printout, window_text, windows_text};
+ghost use Rattle.planner.specs.Steps.{Ends, reader_text};
 
 use super::placement::{check_pins, first_boards};
 use chain::STAGES;
 use chain::parts::{PartRow, TooLong, Windowed};
 use chain_file::fields::FileChain;
-use chain_file::readers::{Read, ReadError, Reader, RecordRefusal};
+use chain_file::readers::{Read, ReadError, Reader};
 use std::alloc::{AllocError, Global};
-use std::fmt;
+use thiserror::Error;
 
 // The text could not be made.
-#[derive(Clone, Copy, Debug)]
+#[derive(Clone, Copy, Debug, Error)]
+#[error("no memory for the print-out")]
 pub struct NoMemory;
 
 impl From<AllocError> for NoMemory {
@@ -25,22 +25,15 @@ impl From<AllocError> for NoMemory {
     }
 }
 
-impl From<fmt::Error> for NoMemory {
-    fn from(_e: fmt::Error) -> NoMemory {
-        NoMemory
-    }
-}
-
 // One window of a chain's line.
-fn put_window(text: &mut String, part: Windowed) -> Result<(), NoMemory>
+fn put_window(text: &mut String, part: Windowed) -> Result<(), AllocError>
     ensures { OnOk result (string_bytes text.new ≡ string_bytes text.old ++ window_text part) }
 {
     let window = part.window;
-    write!(text, " {window}")?;
-    Ok(())
+    write!(text, " {window}")
 }
 
-fn put_windows(text: &mut String, parts: &[Windowed]) -> Result<(), NoMemory>
+fn put_windows(text: &mut String, parts: &[Windowed]) -> Result<(), AllocError>
     ensures { OnOk result (string_bytes text.new ≡ string_bytes text.old ++ windows_text parts.now) }
 {
     text.push_str(" windows")?;
@@ -56,26 +49,13 @@ fn put_placed(
     row: &mut PartRow<STAGES>,
     chain: &FileChain,
     boards: &[u8],
-) -> Result<(), NoMemory>
+) -> Result<(), AllocError>
     ensures { OnOk result (string_bytes text.new ≡ string_bytes text.old ++ placed_text (contents chain.now) boards.now) }
 {
     match row.place(chain, boards) {
         Ok(()) => put_windows(text, row.parts.as_slice()),
-        Err(TooLong) => {
-            text.push_str(" long")?;
-            Ok(())
-        }
+        Err(TooLong) => text.push_str(" long"),
     }
-}
-
-// The line of a refused file.
-fn put_refusal(text: &mut String, refusal: RecordRefusal) -> Result<(), NoMemory>
-    ensures { OnOk result (string_bytes text.new ≡ string_bytes text.old ++ refusal_line (record { at = refusal.at; why = described refusal.why })) }
-{
-    let number = refusal.why.number();
-    let at = refusal.at;
-    writeln!(text, "file refused {number} record {at}")?;
-    Ok(())
 }
 
 // What stands in a chain's line after its name.
@@ -85,14 +65,12 @@ fn put_answer(
     row: &mut PartRow<STAGES>,
     boards: u8,
     chain: &FileChain,
-) -> Result<(), NoMemory>
+) -> Result<(), AllocError>
     ensures { OnOk result (string_bytes text.new ≡ string_bytes text.old ++ answer_text (placement_refusal boards chain.now.stages.items) (contents chain.now)) }
 {
     let stages = chain.stages.as_slice();
-    if let Some(why) = check_pins(boards, stages) {
-        let number = why.number();
-        write!(text, " refused {number}")?;
-        return Ok(());
+    if let Err(why) = check_pins(boards, stages) {
+        return write!(text, " {why}");
     }
     let placement = first_boards(heap, stages)?;
     put_placed(text, row, chain, placement.as_slice())
@@ -105,43 +83,34 @@ fn put_chain(
     row: &mut PartRow<STAGES>,
     boards: u8,
     chain: &FileChain,
-) -> Result<(), NoMemory>
+) -> Result<(), AllocError>
     ensures { OnOk result (string_bytes text.new ≡ string_bytes text.old ++ chain_line boards (contents chain.now)) }
 {
-    let name = chain.name;
+    let name = chain.heading.name;
     write!(text, "chain {name}")?;
     put_answer(heap, text, row, boards, chain)?;
-    text.push_str("\n")?;
-    Ok(())
+    text.push_str("\n")
 }
 
-// The line of the next record. True where it was a chain's, so that more may come.
-fn put_next(
+// The lines of the chains that are left, up to a refusal.
+fn put_chains(
     heap: Global,
     text: &mut String,
     row: &mut PartRow<STAGES>,
     reader: &mut Reader,
-    place: &mut Option<FileChain>,
-) -> Result<bool, NoMemory>
+) -> Result<(), ReadError>
     requires { reader.old.read ≤ most_chains }
-    ensures { IfOk result (Turns (string_bytes text.old) (string_bytes text.new) reader.old reader.new) }
+    ensures { Ends (string_bytes text.old ++ reader_text reader.old) (string_bytes text.new) result }
 {
-    match reader.next(heap, place) {
-        Ok(Read::End) => Ok(false),
-        Err(ReadError::NoMemory) => Err(NoMemory),
-        Err(ReadError::Refused(refusal)) => {
-            put_refusal(text, refusal)?;
-            Ok(false)
-        }
-        Ok(Read::Chain) => {
-            let Some(chain) = place else { unreachable() };
-            put_chain(heap, text, row, reader.boards, chain)?;
-            Ok(true)
-        }
+    let mut place = None;
+    while let Read::Chain = reader.next(heap, &mut place)? {
+        let Some(chain) = &place else { unreachable!() };
+        put_chain(heap, text, row, reader.boards, chain)?;
     }
+    Ok(())
 }
 
-// The lines of the chains that are left, and of the refusal that ends them, if one does.
+// The same, and the line of the refusal that ends them, if one does.
 fn put_records(
     heap: Global,
     text: &mut String,
@@ -151,9 +120,11 @@ fn put_records(
     requires { reader.old.read ≤ most_chains }
     ensures { OnOk result (string_bytes text.new ≡ string_bytes text.old ++ reader_text reader.old) }
 {
-    let mut place = None;
-    while put_next(heap, text, row, reader, &mut place)? {}
-    Ok(())
+    match put_chains(heap, text, row, reader) {
+        Ok(()) => Ok(()),
+        Err(ReadError::Refused(refusal)) => Ok(writeln!(text, "{refusal}")?),
+        Err(ReadError::NoMemory) => Err(NoMemory),
+    }
 }
 
 // The whole print-out of a chain file.
@@ -162,7 +133,7 @@ pub fn report(heap: Global, bytes: &[u8]) -> Result<String, NoMemory>
 {
     let mut text = String::new(heap);
     match Reader::open(bytes) {
-        Err(refusal) => put_refusal(&mut text, refusal)?,
+        Err(refusal) => writeln!(text, "{refusal}")?,
         Ok(mut reader) => {
             let mut row = PartRow::new(heap)?;
             let boards = reader.boards;

@@ -1,6 +1,7 @@
 // Whole print-outs.
 use super::placement::PinRefusal;
 use super::printout::report;
+use chain::refusals::Refusal;
 use std::alloc::Global;
 use std::process::Abort;
 use std::test::Fail;

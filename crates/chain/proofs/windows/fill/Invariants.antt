@@ -7,7 +7,7 @@ use Rattle.chain.proofs.windows.fill.Given as goal
 
 abbrev pub invariant-loop-k : goal.invariant-loop-k
 invariant-loop-k g l =
-    (l.before + total (left (contents l.chain) l.boards l.k) ≡ l.sum)
-    × (vec_items l.row ++ windowed l.chain.deadline l.sum l.before (left (contents l.chain) l.boards l.k) ≡ windows (contents l.chain) l.boards)
+    (l.before + total (left (contents l.placed.chain.now) l.placed.boards.now l.k) ≡ l.pace.work)
+    × (vec_items l.row ++ windowed l.pace.deadline l.pace.work l.before (left (contents l.placed.chain.now) l.placed.boards.now l.k) ≡ windows (contents l.placed.chain.now) l.placed.boards.now)
     × (vec_len l.row ≤ l.k + l.k)
     × (vec_capacity l.row ≡ vec_capacity l.initial.row)

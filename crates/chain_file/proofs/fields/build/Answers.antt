@@ -1,34 +1,53 @@
-use Rattle.std.proofs.Common.{◌-◌, ◌<◌, length, vec_len, ap, ◌∙◌, arith}
+use Rattle.std.proofs.Common.{◌≡◌, ◌/◌, ◌<◌, length, vec_len, length-append, sym, refl, ap, ◌∙◌, arith}
+use Rattle.chain.specs.declared.stages.Stage.{Stage}
 use Rattle.chain.specs.Drafting.{Contents, length_refusal, stage_refusal, with_message, with_stage}
 use Rattle.chain.specs.Limits.{most_boards, most_stages}
-use Rattle.chain_file.proofs.Saying.{length-said, message_fits, message_passes, not_refused, said_more, stage_passes}
+use Rattle.chain_file.proofs.Rows.{last_fine, last_is, message_length-in, pin_in, row_fine, row_is, stage_length-in}
+use Rattle.chain_file.proofs.Saying.{drafted, drafted_last, drafted_more, length-drafted, message_fits, not_refused}
 use Rattle.chain_file.proofs.fields.build.Goals as goal
 
 pub unreachable-requires : goal.unreachable-requires
 unreachable-requires c =
-    let first = c.stage_at-pin.ensures in
+    let row = c.stage_in-pin.ensures in
     not_refused _
-    ((λ i. stage_refusal most_boards (first.pin i) (first.length i)) ∙ stage_passes c.args.head.now c.args.rest.now c.requires.checked 0 (omega (arith, c.requires.size)))
-    c.in_default-stage.ensures.0
+    ((λ i. stage_refusal most_boards (row.pin i) (row.length i)) ∙ (row_fine c.args.rest.now _ c.loop-row.row-index _ c.as_chunks.ensures.front (omega (arith, c.as_chunks.ensures.front_len)) c.requires.checked).0)
+    c.in_default.ensures.0
 
 pub unreachable-requires-in_default-message : goal.unreachable-requires-in_default-message
 unreachable-requires-in_default-message c =
-    let drafted = ap (λ (x : Contents). length x.stages) c.loop-k.invariant ∙ length-said c.args.head.now c.args.rest.now c.loop-k.k in
-    let few : vec_len c.loop-k.draft.stages < most_stages = omega (arith, drafted, c.loop-k.draft.stages.ok.0, c.requires.few) in
-    let passes = message_passes c.args.head.now c.args.rest.now c.requires.checked (c.loop-k.k - 1) (omega arith) in
-    not_refused _ (message_fits most_stages _ c.message_at.result few (ap length_refusal c.message_at.ensures ∙ passes)) c.in_default-message.ensures.0
+    let rest = c.args.rest.now in
+    let k = c.loop-row.row-index in
+    let before = ap (λ (x : Contents). length x.stages) c.loop-row.invariant ∙ length-drafted c.args.heading rest k in
+    let more = ap (λ (x : Contents). length x.stages) c.in-Ok.ensures.1 in
+    let few : vec_len c.in-Ok.staged.chain.stages < most_stages = omega (arith, before, more, length-append {A = Stage}, c.in-Ok.staged.chain.stages.ok.0, c.requires.few, c.as_chunks.ensures.front_len) in
+    let fine = (row_fine rest _ k _ c.as_chunks.ensures.front (omega (arith, c.as_chunks.ensures.front_len)) c.requires.checked).1 in
+    not_refused _ (message_fits most_stages _ c.message_in.result few (ap length_refusal c.message_in.ensures ∙ fine)) c.in_default-message.ensures.0
 
-pub unreachable-requires-in_default-stage-2 : goal.unreachable-requires-in_default-stage-2
-unreachable-requires-in_default-stage-2 c =
-    let next = c.stage_at-pin-in-loop-k.ensures in
+pub unreachable-requires-in_default-stage : goal.unreachable-requires-in_default-stage
+unreachable-requires-in_default-stage c =
+    let row = c.stage_in-pin-2.ensures in
     not_refused _
-    ((λ i. stage_refusal most_boards (next.pin i) (next.length i)) ∙ stage_passes c.args.head.now c.args.rest.now c.requires.checked c.loop-k.k (omega arith))
-    c.in_default-stage-2.ensures.0
+    ((λ i. stage_refusal most_boards (row.pin i) (row.length i)) ∙ last_fine c.args.rest.now _ c.as_chunks.ensures.back c.requires.checked)
+    c.in_default-stage.ensures.0
 
-pub loop-k-preserved : goal.loop-k-preserved
-loop-k-preserved c =
-    let next = c.stage_at-pin-in-loop-k.ensures in
-    let waited = c.in-Ok-message.ensures.1 ∙ (λ i. with_message (c.loop-k.invariant i) (c.message_at.ensures i)) in
-    c.in-Ok-stage-2.ensures.1
-    ∙ (λ i. with_stage (waited i) (next.pin i) (next.length i))
-    ∙ said_more c.args.head.now c.args.rest.now c.loop-k.k c.loop-k.auto.k
+pub loop-row-preserved : goal.loop-row-preserved
+loop-row-preserved c =
+    let rest = c.args.rest.now in
+    let k = c.loop-row.row-index in
+    let row = c.stage_in-pin.ensures in
+    let inside : k < length rest / 9 = omega (arith, c.as_chunks.ensures.front_len) in
+    let is = row_is rest _ k _ c.as_chunks.ensures.front inside in
+    c.in-Ok-message.ensures.1
+    ∙ (λ i. with_message ((c.in-Ok.ensures.1 ∙ (λ j. with_stage (c.loop-row.invariant j) ((row.pin ∙ pin_in rest _ k 9 (omega arith) is) j) ((row.length ∙ stage_length-in rest _ k 9 (omega arith) is) j))) i) ((c.message_in.ensures ∙ message_length-in rest _ k is) i))
+    ∙ drafted_more c.args.heading rest k
+
+pub returns : goal.returns
+returns c =
+    let rest = c.args.rest.now in
+    let row = c.stage_in-pin-2.ensures in
+    let is = last_is rest _ c.as_chunks.ensures.back in
+    let at : length rest / 9 ≡ c.loop-row.row-index = omega (arith, c.as_chunks.ensures.front_len) in
+    c.finish.ensures
+    ∙ c.in-Ok-stage.ensures.1
+    ∙ (λ i. with_stage ((c.loop-row.invariant ∙ (λ j. drafted c.args.heading rest (sym at j))) i) ((row.pin ∙ pin_in rest _ _ 5 (omega arith) is) i) ((row.length ∙ stage_length-in rest _ _ 5 (omega arith) is) i))
+    ∙ drafted_last c.args.heading rest (length rest / 9) refl

@@ -1,7 +1,7 @@
 use Rattle.std.proofs.Common.{◌≡◌}
-use Rattle.chain.specs.Drafting.{staged}
-use Rattle.chain_file.proofs.Saying.{said_upto}
+use Rattle.chain.specs.Drafting.{waiting}
+use Rattle.chain_file.proofs.Saying.{drafted}
 use Rattle.chain_file.proofs.fields.build.Given as goal
 
-abbrev pub invariant-loop-k : goal.invariant-loop-k
-invariant-loop-k l = staged l.draft ≡ said_upto l.head l.rest l.k
+abbrev pub invariant-loop-row : goal.invariant-loop-row
+invariant-loop-row l = waiting l.draft ≡ drafted l.fn.heading l.rest l.row-index

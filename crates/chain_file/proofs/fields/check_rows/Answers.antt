@@ -1,26 +1,25 @@
-use Rattle.std.proofs.Common.{sym, ◌∙◌, arith}
-use Rattle.std.proofs.lemmas.List.FromFn.{get_or-range_with_len, length-range_with_len}
-use Rattle.std.specs.List.{range_with_len}
-use Rattle.chain.proofs.Firsts.{left-all, left-passed, left-stands}
+use Rattle.std.proofs.Common.{◌≡◌, ◌/◌, ◌<◌, Some, length, sym, ◌∙◌, arith, rules}
 use Rattle.chain.specs.Refusals.{described}
-use Rattle.chain_file.specs.Format.{stage_row_refusal}
+use Rattle.chain_file.specs.Format.{rows_refusal}
+use Rattle.chain_file.specs.Steps.{stages_in}
+use Rattle.chain_file.proofs.Rows.{last_decides, row_passed, row_stands}
 use Rattle.chain_file.proofs.fields.check_rows.Goals as goal
 
-pub returns-then-is_some : goal.returns-then-is_some
-returns-then-is_some c =
-    let n = c.args.n in
-    let k = c.loop-k.k in
-    left-stands (stage_row_refusal n c.args.rest.now) (range_with_len 0 n) k k k (omega (arith, length-range_with_len 0 n)) (omega (arith, get_or-range_with_len 0 n k k c.loop-k-test.true)) described c.check_row-why.result c.check_row-why.ensures (sym c.if-is_some.ensures)
-    ∙ c.loop-k.invariant
+pub returns-in_err-check_row : goal.returns-in_err-check_row
+returns-in_err-check_row c =
+    let rest = c.args.rest.now in
+    let inside : c.loop-row.row-index < length rest / 9 = omega (arith, c.as_chunks.ensures.front_len) in
+    let found : rows_refusal (stages_in rest) rest ≡ Some (described c.in_err-check_row.field-0.0) =
+    sym c.loop-row.invariant ∙ row_stands rest _ _ _ c.as_chunks.ensures.front inside _ (sym c.in_err-check_row.ensures) in
+    search rules
 
-pub loop-k-preserved : goal.loop-k-preserved
-loop-k-preserved c =
-    let n = c.args.n in
-    let k = c.loop-k.k in
-    left-passed (stage_row_refusal n c.args.rest.now) (range_with_len 0 n) k k k (omega (arith, length-range_with_len 0 n)) (omega (arith, get_or-range_with_len 0 n k k c.loop-k-test.true)) described c.check_row-why.result c.check_row-why.ensures (sym c.if-is_some.ensures)
-    ∙ c.loop-k.invariant
+pub loop-row-preserved : goal.loop-row-preserved
+loop-row-preserved c =
+    row_passed c.args.rest.now _ _ _ c.as_chunks.ensures.front (omega (arith, c.as_chunks.ensures.front_len)) (sym c.in_ok-check_row.ensures)
+    ∙ c.loop-row.invariant
 
 pub returns : goal.returns
 returns c =
-    sym (left-all (stage_row_refusal c.args.n c.args.rest.now) (range_with_len 0 c.args.n) c.loop-k.k (omega (arith, length-range_with_len 0 c.args.n)))
-    ∙ c.loop-k.invariant
+    c.check_last.ensures
+    ∙ sym (last_decides c.args.rest.now _ c.loop-row.row-index c.as_chunks.ensures.back (omega (arith, c.as_chunks.ensures.front_len)))
+    ∙ c.loop-row.invariant

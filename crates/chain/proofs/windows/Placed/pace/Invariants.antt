@@ -2,9 +2,9 @@ use Rattle.std.proofs.Common.{◌≡◌, ◌+◌, ◌≤◌}
 use Rattle.chain.specs.Drafting.{contents}
 use Rattle.chain.specs.Parts.{parts, total}
 use Rattle.chain.proofs.PartSteps.{left}
-use Rattle.chain.proofs.windows.total_within.Given as goal
+use Rattle.chain.proofs.windows.Placed.pace.Given as goal
 
 abbrev pub invariant-loop-k : goal.invariant-loop-k
 invariant-loop-k g l =
-    (l.upto ≤ l.chain.deadline)
-    × (l.upto + total (left (contents l.chain) l.boards l.k) ≡ total (parts (contents l.chain) l.boards))
+    (l.upto ≤ l.self.chain.now.heading.deadline)
+    × (l.upto + total (left (contents l.self.chain.now) l.self.boards.now l.k) ≡ total (parts (contents l.self.chain.now) l.self.boards.now))
