@@ -9,7 +9,7 @@ use Rattle.chain_file.specs.declared.readers.ReadError.{ReadError}
 use Rattle.chain_file.specs.declared.readers.ReadError.TheVariants.{Refused, NoMemory}
 use Rattle.chain_file.specs.declared.refusals.FileRefusal.{FileRefusal}
 use Rattle.chain_file.specs.Fields.{head, rest, said}
-use Rattle.chain_file.specs.Format.{after_record, body, body_refusal, chain, cut_refusal, header_refusal, most_chains, next, record_refusal, refused}
+use Rattle.chain_file.specs.Format.{after_record, body, body_refusal, chain, cut_refusal, header_refusal, most_chains, next, record_refusal, refused, rows_refusal}
 use Rattle.chain_file.specs.Refusals.{described}
 
 -- how many stages the rest of a body holds, nine bytes each but for the last, which has five
@@ -36,6 +36,7 @@ pub record Checked (bs : List ℕ) (heading : Heading) (stages : List ℕ) : Typ
   pub whole : stages ≡ rest bs
   pub size : length stages % 9 ≡ 5
   pub few : stages_in stages ≤ most_stages
+  pub fine : rows_refusal (stages_in stages) stages ≡ None
   pub says : said_by heading stages ≡ said (head bs) (rest bs)
 
 abbrev pub Checks : (bs : List ℕ) → Result (Heading × Bor (List ℕ)) FileRefusal → Type 0

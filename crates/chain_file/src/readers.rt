@@ -47,6 +47,17 @@ pub enum ReadError {
     NoMemory,
 }
 
+impl From<RecordRefusal> for ReadError {
+    ghost use Rattle.std.specs.Prelude.{◌≡◌};
+    ghost use Rattle.chain_file.specs.declared.readers.ReadError.TheVariants.{Refused};
+
+    ghost from_gives = { λ refusal e. e ≡ Refused refusal };
+
+    fn from(refusal: RecordRefusal) -> ReadError {
+        ReadError::Refused(refusal)
+    }
+}
+
 impl From<AllocError> for ReadError {
     ghost use Rattle.std.specs.Prelude.{◌≡◌};
     ghost use Rattle.chain_file.specs.declared.readers.ReadError.TheVariants.{NoMemory};

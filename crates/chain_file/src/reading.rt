@@ -38,35 +38,6 @@ fn has_room(read: u8) -> bool
     read < MOST_CHAINS
 }
 
-// A refusal of the record after `read` others.
-fn refuse(read: u8, why: FileRefusal) -> ReadError
-    ensures { result ≡ ReadError.Refused (record { at = read + 1; why = why }) }
-{
-    let at = u16::from(read) + 1;
-    ReadError::Refused(RecordRefusal { at, why })
-}
-
-// Cuts the record after `read` others into its body and the bytes after it.
-fn cut(read: u8, bytes: &[u8]) -> Result<(&[u8], &[u8]), FileRefusal>
-    ensures { Cuts read bytes.now result }
-{
-    if !has_room(read) {
-        return Err(FileRefusal::TooManyChains);
-    }
-    let [high, low, rest @ ..] = bytes else {
-        return Err(FileRefusal::TooShort);
-    };
-    let length = u16::from_be_bytes([*high, *low]);
-    let size = usize::from(length);
-    if !is_body_size(size) {
-        return Err(FileRefusal::RecordSize { length });
-    }
-    if rest.len() < size {
-        return Err(FileRefusal::TooShort);
-    }
-    Ok(rest.split_at(size))
-}
-
 // The heading of the chain that a body says, and the bytes of its stages: all is checked.
 fn check_body(body: &[u8]) -> Result<(Heading, &[u8]), FileRefusal>
     requires { size_kept (length body.now) ≡ true }
@@ -82,27 +53,6 @@ fn check_body(body: &[u8]) -> Result<(Heading, &[u8]), FileRefusal>
     let heading = Heading::new(head.name, head.period, head.deadline)?;
     check_rows(rest)?;
     Ok((heading, rest))
-}
-
-// The heading of the chain that the first record in `bytes` says, the bytes of its stages, and the
-// bytes after the record: all of it is checked.
-fn check_record(read: u8, bytes: &[u8]) -> Result<(Heading, &[u8], &[u8]), FileRefusal>
-    ensures { RecordChecks read bytes.now result }
-{
-    let (body, rest) = cut(read, bytes)?;
-    let (heading, stages) = check_body(body)?;
-    Ok((heading, stages, rest))
-}
-
-// The chain of the record that stands first in `bytes`, and the bytes after it. The record is
-// checked whole before memory is taken for its chain.
-fn read_record(heap: Global, read: u8, bytes: &[u8]) -> Result<(FileChain, &[u8]), ReadError>
-    requires { 0 < length bytes.now }
-    ensures { Records read bytes.now result }
-{
-    let (heading, stages, rest) = check_record(read, bytes).map_err(|why| refuse(read, why))?;
-    let chain = build(heap, heading, stages)?;
-    Ok((chain, rest))
 }
 
 // The board count in a file's header, its first two bytes, and the bytes after it.
@@ -125,6 +75,51 @@ fn read_header(bytes: &[u8]) -> Result<(u8, &[u8]), FileRefusal>
 }
 
 impl<'a> Reader<'a> {
+    // Cuts the next record into its body and the bytes after it.
+    fn cut(&self) -> Result<(&'a [u8], &'a [u8]), FileRefusal>
+        ensures { Cuts self.now.read self.now.rest.now result }
+    {
+        if !has_room(self.read) {
+            return Err(FileRefusal::TooManyChains);
+        }
+        let [high, low, rest @ ..] = self.rest else {
+            return Err(FileRefusal::TooShort);
+        };
+        let length = u16::from_be_bytes([*high, *low]);
+        let size = usize::from(length);
+        if !is_body_size(size) {
+            return Err(FileRefusal::RecordSize { length });
+        }
+        if rest.len() < size {
+            return Err(FileRefusal::TooShort);
+        }
+        Ok(rest.split_at(size))
+    }
+
+    // The heading of the chain that the next record says, the bytes of its stages, and the bytes
+    // after the record: all of it is checked.
+    fn check_record(&self) -> Result<(Heading, &'a [u8], &'a [u8]), FileRefusal>
+        ensures { RecordChecks self.now.read self.now.rest.now result }
+    {
+        let (body, rest) = self.cut()?;
+        let (heading, stages) = check_body(body)?;
+        Ok((heading, stages, rest))
+    }
+
+    // The chain of the next record, and the bytes after it. The record is checked whole before
+    // memory is taken for its chain.
+    fn read_record(&self, heap: Global) -> Result<(FileChain, &'a [u8]), ReadError>
+        requires { 0 < length self.now.rest.now }
+        ensures { Records self.now.read self.now.rest.now result }
+    {
+        let at = u16::from(self.read) + 1;
+        let (heading, stages, rest) = self
+            .check_record()
+            .map_err(|why| RecordRefusal { at, why })?;
+        let chain = build(heap, heading, stages)?;
+        Ok((chain, rest))
+    }
+
     // Opens a file: its first two bytes are the version and the board count.
     pub fn open(bytes: &'a [u8]) -> Result<Reader<'a>, RecordRefusal>
         ensures { Opens bytes.now result }
@@ -144,7 +139,7 @@ impl<'a> Reader<'a> {
         if self.rest.is_empty() {
             return Ok(Read::End);
         }
-        let (chain, rest) = read_record(heap, self.read, self.rest)?;
+        let (chain, rest) = self.read_record(heap)?;
         self.rest = rest;
         self.read += 1;
         *place = Some(chain);

@@ -30,29 +30,25 @@ fn refused_record(heap: Global, record: &[u8]) -> Option<RecordRefusal> {
     }
 }
 
-fn at_header(why: FileRefusal) -> Option<RecordRefusal> {
-    Some(RecordRefusal { at: 0, why })
-}
-
-fn at_first(why: FileRefusal) -> Option<RecordRefusal> {
-    Some(RecordRefusal { at: 1, why })
+fn refusal(at: u16, why: FileRefusal) -> Option<RecordRefusal> {
+    Some(RecordRefusal { at, why })
 }
 
 #[test]
 fn headers(rt: HostRuntime) {
-    assert_eq!(rt; refused_header(&[]), at_header(FileRefusal::TooShort));
+    assert_eq!(rt; refused_header(&[]), refusal(0, FileRefusal::TooShort));
     assert_eq!(rt;
         refused_header(&[2]),
-        at_header(FileRefusal::Version { version: 2 })
+        refusal(0, FileRefusal::Version { version: 2 })
     );
-    assert_eq!(rt; refused_header(&[1]), at_header(FileRefusal::TooShort));
+    assert_eq!(rt; refused_header(&[1]), refusal(0, FileRefusal::TooShort));
     assert_eq!(rt;
         refused_header(&[1, 0]),
-        at_header(FileRefusal::Boards { boards: 0 })
+        refusal(0, FileRefusal::Boards { boards: 0 })
     );
     assert_eq!(rt;
         refused_header(&[1, 5]),
-        at_header(FileRefusal::Boards { boards: 5 })
+        refusal(0, FileRefusal::Boards { boards: 5 })
     );
     assert_eq!(rt; refused_header(&[1, 1]), None);
     assert_eq!(rt; refused_header(&[1, 4, 0]), None);
@@ -72,26 +68,29 @@ fn numbers(rt: HostRuntime) {
 fn lengths_of_records(rt: HostRuntime) {
     let heap = rt.alloc();
     let record = *RECORD;
-    assert_eq!(rt; refused_record(heap, &[0]), at_first(FileRefusal::TooShort));
+    assert_eq!(rt;
+        refused_record(heap, &[0]),
+        refusal(1, FileRefusal::TooShort)
+    );
     assert_eq!(rt;
         refused_record(heap, &[0, 17]),
-        at_first(FileRefusal::RecordSize { length: 17 })
+        refusal(1, FileRefusal::RecordSize { length: 17 })
     );
     assert_eq!(rt;
         refused_record(heap, &[0, 7]),
-        at_first(FileRefusal::RecordSize { length: 7 })
+        refusal(1, FileRefusal::RecordSize { length: 7 })
     );
     assert_eq!(rt;
         refused_record(heap, &[0, 70]),
-        at_first(FileRefusal::RecordSize { length: 70 })
+        refusal(1, FileRefusal::RecordSize { length: 70 })
     );
     assert_eq!(rt;
         refused_record(heap, &[0, 61]),
-        at_first(FileRefusal::TooShort)
+        refusal(1, FileRefusal::TooShort)
     );
     assert_eq!(rt;
         refused_record(heap, &record[0..17]),
-        at_first(FileRefusal::TooShort)
+        refusal(1, FileRefusal::TooShort)
     );
     assert_eq!(rt; refused_record(heap, RECORD), None);
 }
@@ -110,11 +109,11 @@ fn fields_of_records(rt: HostRuntime) {
     let heap = rt.alloc();
     assert_eq!(rt;
         refused_with(heap, 12, 2),
-        at_first(FileRefusal::RecordSize { length: 16 })
+        refusal(1, FileRefusal::RecordSize { length: 16 })
     );
     assert_eq!(rt;
         refused_with(heap, 3, 0),
-        at_first(FileRefusal::Field(DraftRefusal::NoName))
+        refusal(1, FileRefusal::Field(DraftRefusal::NoName))
     );
     let times = DraftRefusal::Times {
         period: 20,
@@ -122,17 +121,17 @@ fn fields_of_records(rt: HostRuntime) {
     };
     assert_eq!(rt;
         refused_with(heap, 11, 21),
-        at_first(FileRefusal::Field(times))
+        refusal(1, FileRefusal::Field(times))
     );
     let pin = DraftRefusal::PinAbove { pin: 5 };
     assert_eq!(rt;
         refused_with(heap, 13, 5),
-        at_first(FileRefusal::Field(pin))
+        refusal(1, FileRefusal::Field(pin))
     );
     let length = DraftRefusal::Length { length: 0 };
     assert_eq!(rt;
         refused_with(heap, 17, 0),
-        at_first(FileRefusal::Field(length))
+        refusal(1, FileRefusal::Field(length))
     );
 }
 
@@ -152,17 +151,17 @@ fn a_byte_after_record_16_is_refused(rt: HostRuntime) -> Result<(), Fail> {
     for _ in 0..16u8 {
         assert_eq!(rt; reader.next(heap, &mut place), Ok(Read::Chain));
     }
-    let refusal = RecordRefusal {
+    let too_many = RecordRefusal {
         at: 17,
         why: FileRefusal::TooManyChains,
     };
     assert_eq!(rt;
         reader.next(heap, &mut place),
-        Err(ReadError::Refused(refusal))
+        Err(ReadError::Refused(too_many))
     );
     assert_eq!(rt;
         reader.next(heap, &mut place),
-        Err(ReadError::Refused(refusal))
+        Err(ReadError::Refused(too_many))
     );
     assert!(rt; place.is_some());
     Ok(())

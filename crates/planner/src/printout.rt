@@ -43,87 +43,71 @@ fn put_windows(text: &mut String, parts: &[Windowed]) -> Result<(), AllocError>
     Ok(())
 }
 
-// What stands in a chain's line after its name, once its pins are checked.
-fn put_placed(
-    text: &mut String,
-    row: &mut PartRow<STAGES>,
-    chain: &FileChain,
-    boards: &[u8],
-) -> Result<(), AllocError>
-    ensures { OnOk result (string_bytes text.new ≡ string_bytes text.old ++ placed_text (contents chain.now) boards.now) }
-{
-    match row.place(chain, boards) {
-        Ok(()) => put_windows(text, row.parts.as_slice()),
-        Err(TooLong) => text.push_str(" long"),
+// A print-out that is being written, and what each chain's line needs: memory for its placement,
+// and a row for its parts.
+#[derive(Drop)]
+struct Printer {
+    heap: Global,
+    text: String,
+    row: PartRow<STAGES>,
+}
+
+impl Printer {
+    // What stands in a chain's line after its name, once its pins are checked.
+    fn put_placed(&mut self, chain: &FileChain, boards: &[u8]) -> Result<(), AllocError>
+        ensures { OnOk result (string_bytes self.new.text ≡ string_bytes self.old.text ++ placed_text (contents chain.now) boards.now) }
+    {
+        match self.row.place(chain, boards) {
+            Ok(()) => put_windows(&mut self.text, self.row.parts.as_slice()),
+            Err(TooLong) => self.text.push_str(" long"),
+        }
     }
-}
 
-// What stands in a chain's line after its name.
-fn put_answer(
-    heap: Global,
-    text: &mut String,
-    row: &mut PartRow<STAGES>,
-    boards: u8,
-    chain: &FileChain,
-) -> Result<(), AllocError>
-    ensures { OnOk result (string_bytes text.new ≡ string_bytes text.old ++ answer_text (placement_refusal boards chain.now.stages.items) (contents chain.now)) }
-{
-    let stages = chain.stages.as_slice();
-    if let Err(why) = check_pins(boards, stages) {
-        return write!(text, " {why}");
+    // What stands in a chain's line after its name.
+    fn put_answer(&mut self, boards: u8, chain: &FileChain) -> Result<(), AllocError>
+        ensures { OnOk result (string_bytes self.new.text ≡ string_bytes self.old.text ++ answer_text (placement_refusal boards chain.now.stages.items) (contents chain.now)) }
+    {
+        let stages = chain.stages.as_slice();
+        if let Err(why) = check_pins(boards, stages) {
+            return write!(self.text, " {why}");
+        }
+        let placement = first_boards(self.heap, stages)?;
+        self.put_placed(chain, placement.as_slice())
     }
-    let placement = first_boards(heap, stages)?;
-    put_placed(text, row, chain, placement.as_slice())
-}
 
-// The whole line of a chain.
-fn put_chain(
-    heap: Global,
-    text: &mut String,
-    row: &mut PartRow<STAGES>,
-    boards: u8,
-    chain: &FileChain,
-) -> Result<(), AllocError>
-    ensures { OnOk result (string_bytes text.new ≡ string_bytes text.old ++ chain_line boards (contents chain.now)) }
-{
-    let name = chain.heading.name;
-    write!(text, "chain {name}")?;
-    put_answer(heap, text, row, boards, chain)?;
-    text.push_str("\n")
-}
-
-// The lines of the chains that are left, up to a refusal.
-fn put_chains(
-    heap: Global,
-    text: &mut String,
-    row: &mut PartRow<STAGES>,
-    reader: &mut Reader,
-) -> Result<(), ReadError>
-    requires { reader.old.read ≤ most_chains }
-    ensures { Ends (string_bytes text.old ++ reader_text reader.old) (string_bytes text.new) result }
-{
-    let mut place = None;
-    while let Read::Chain = reader.next(heap, &mut place)? {
-        let Some(chain) = &place else { unreachable!() };
-        put_chain(heap, text, row, reader.boards, chain)?;
+    // The whole line of a chain.
+    fn put_chain(&mut self, boards: u8, chain: &FileChain) -> Result<(), AllocError>
+        ensures { OnOk result (string_bytes self.new.text ≡ string_bytes self.old.text ++ chain_line boards (contents chain.now)) }
+    {
+        let name = chain.heading.name;
+        write!(self.text, "chain {name}")?;
+        self.put_answer(boards, chain)?;
+        self.text.push_str("\n")
     }
-    Ok(())
-}
 
-// The same, and the line of the refusal that ends them, if one does.
-fn put_records(
-    heap: Global,
-    text: &mut String,
-    row: &mut PartRow<STAGES>,
-    reader: &mut Reader,
-) -> Result<(), NoMemory>
-    requires { reader.old.read ≤ most_chains }
-    ensures { OnOk result (string_bytes text.new ≡ string_bytes text.old ++ reader_text reader.old) }
-{
-    match put_chains(heap, text, row, reader) {
-        Ok(()) => Ok(()),
-        Err(ReadError::Refused(refusal)) => Ok(writeln!(text, "{refusal}")?),
-        Err(ReadError::NoMemory) => Err(NoMemory),
+    // The lines of the chains that are left, up to a refusal.
+    fn put_chains(&mut self, reader: &mut Reader) -> Result<(), ReadError>
+        requires { reader.old.read ≤ most_chains }
+        ensures { Ends (string_bytes self.old.text ++ reader_text reader.old) (string_bytes self.new.text) result }
+    {
+        let mut place = None;
+        while let Read::Chain = reader.next(self.heap, &mut place)? {
+            let Some(chain) = &place else { unreachable!() };
+            self.put_chain(reader.boards, chain)?;
+        }
+        Ok(())
+    }
+
+    // The same, and the line of the refusal that ends them, if one does.
+    fn put_records(&mut self, reader: &mut Reader) -> Result<(), NoMemory>
+        requires { reader.old.read ≤ most_chains }
+        ensures { OnOk result (string_bytes self.new.text ≡ string_bytes self.old.text ++ reader_text reader.old) }
+    {
+        match self.put_chains(reader) {
+            Ok(()) => Ok(()),
+            Err(ReadError::Refused(refusal)) => Ok(writeln!(self.text, "{refusal}")?),
+            Err(ReadError::NoMemory) => Err(NoMemory),
+        }
     }
 }
 
@@ -131,15 +115,16 @@ fn put_records(
 pub fn report(heap: Global, bytes: &[u8]) -> Result<String, NoMemory>
     ensures { IfOk result (λ text. string_bytes text ≡ printout bytes.now) }
 {
-    let mut text = String::new(heap);
-    match Reader::open(bytes) {
-        Err(refusal) => writeln!(text, "{refusal}")?,
-        Ok(mut reader) => {
-            let mut row = PartRow::new(heap)?;
-            let boards = reader.boards;
-            writeln!(text, "boards {boards}")?;
-            put_records(heap, &mut text, &mut row, &mut reader)?;
-        }
-    }
-    Ok(text)
+    let mut reader = match Reader::open(bytes) {
+        Ok(reader) => reader,
+        Err(refusal) => return Ok(format!(in heap; "{refusal}\n")?),
+    };
+    let boards = reader.boards;
+    let mut printer = Printer {
+        heap,
+        text: format!(in heap; "boards {boards}\n")?,
+        row: PartRow::new(heap)?,
+    };
+    printer.put_records(&mut reader)?;
+    Ok(printer.text)
 }
