@@ -6,7 +6,8 @@ use super::headings::Heading;
 use super::stages::Stage;
 
 // A chain of at most `S` stages, with pins to boards 1 to `B`: message k stands between the
-// stages k and k + 1.
+// stages k and k + 1. Two rows and not one of pairs, since there is a message fewer, and each rule
+// counts both from the stage.
 #[derive(Drop)]
 pub struct Chain<const S: usize, const B: u8> {
     pub heading: Heading,

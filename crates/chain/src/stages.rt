@@ -2,7 +2,8 @@
 ghost use Rattle.std.specs.Prelude.{◌≡◌};
 ghost use Rattle.chain.specs.Drafting.{pin_of};
 
-// Where a stage may run: on any board, or only on the board that is named.
+// Where a stage may run: on any board, or only on the board that is named. An enum of its own, since
+// `None` in place of `Free` would read as no pin and not as every board.
 #[derive(Clone, Copy, Debug, PartialEq, Eq)]
 pub enum Pin {
     Free,

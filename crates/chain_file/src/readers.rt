@@ -12,8 +12,8 @@ pub struct Reader<'a> {
     pub rest: &'a [u8],
 }
 
-// A chain was put into its place, or the file is at its end. A call fills a place that the caller
-// has, and leaves it as it was otherwise, so the chain is not answered in an `Option`.
+// A chain was put into its place, or the file is at its end. A rule of the project: a call fills a
+// place that the caller has, or touches nothing; so the chain is not answered in an `Option`.
 #[derive(Clone, Copy, Debug, PartialEq, Eq)]
 pub enum Read {
     Chain,

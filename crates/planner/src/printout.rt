@@ -25,7 +25,8 @@ impl From<AllocError> for NoMemory {
     }
 }
 
-// One window of a chain's line.
+// One window of a chain's line. `Windowed` and `Display` belong to other crates, and a type of our
+// own around a window would be no plainer than this.
 fn put_window(text: &mut String, part: Windowed) -> Result<(), AllocError>
     ensures { OnOk result (string_bytes text.new ≡ string_bytes text.old ++ window_text part) }
 {
