@@ -2,7 +2,7 @@
 ghost use Rattle.std.specs.Prelude.{◌≡◌};
 ghost use Rattle.crosscheck.specs.Answers.{answer as answer_to, replies, reply};
 
-use super::questions::{Question, Table, Test};
+use super::questions::{Question, Test};
 use std::fmt;
 use timing::items::Item;
 use timing::refusals::ItemRefusal;
@@ -11,7 +11,8 @@ use timing_tests::board::BoardTest;
 use timing_tests::bus::BusTest;
 use timing_tests::margin::Margin;
 
-// What a test says of a question.
+// What a test says of a question. `passes` is no flag beside `response`: each is the answer to its
+// own call, and both are compared.
 #[derive(Clone, Copy)]
 pub struct Reply {
     pub passes: bool,
@@ -25,12 +26,6 @@ pub struct Replies {
     pub tight: Reply,
 }
 
-#[derive(Clone, Copy)]
-pub enum Answer {
-    Replied(Replies),
-    Refused(ItemRefusal),
-}
-
 impl fmt::Display for Reply {
     fn fmt<W: fmt::Write>(&self, f: &mut fmt::Formatter<W>) -> fmt::Result {
         let passes = if self.passes { "yes" } else { "no" };
@@ -41,20 +36,10 @@ impl fmt::Display for Reply {
     }
 }
 
-impl fmt::Display for Answer {
+impl fmt::Display for Replies {
     fn fmt<W: fmt::Write>(&self, f: &mut fmt::Formatter<W>) -> fmt::Result {
-        match self {
-            Answer::Replied(Replies { plain, tight }) => write!(f, "{plain} {tight}"),
-            Answer::Refused(why) => {
-                let number = why.number();
-                let ItemRefusal::OutsideLimits {
-                    length,
-                    period,
-                    window,
-                } = why;
-                write!(f, "refused {number} {length} {period} {window}")
-            }
-        }
+        let Replies { plain, tight } = self;
+        write!(f, "{plain} {tight}")
     }
 }
 
@@ -62,12 +47,9 @@ impl fmt::Display for Answer {
 fn reply_of<T: TimedTest>(test: &T, question: &Question, table: &[Item]) -> Reply
     ensures { result ≡ reply (T.TimingTest.meaning test.now) (T.TimedTest.time test.now) question.now table.now }
 {
-    let place = question.place;
-    let above = question.above;
-    let below = question.below;
     Reply {
-        passes: test.passes(table, place, above, below),
-        response: test.response(table, place, above, below),
+        passes: test.passes(table, question.place, question.above, question.below),
+        response: test.response(table, question.place, question.above, question.below),
     }
 }
 
@@ -86,18 +68,13 @@ fn replies_of<T: TimedTest + Copy>(test: T, question: &Question, table: &[Item])
 }
 
 impl Question {
-    pub(super) fn answer(&self) -> Answer
+    pub(super) fn answer(&self) -> Result<Replies, ItemRefusal>
         ensures { result ≡ answer_to self.now }
     {
-        match &self.table {
-            Table::Refused(why) => Answer::Refused(*why),
-            Table::Items(items) => {
-                let table = items.as_slice();
-                Answer::Replied(match self.test {
-                    Test::Board => replies_of(BoardTest, self, table),
-                    Test::Bus => replies_of(BusTest, self, table),
-                })
-            }
-        }
+        let table = self.table.as_ref().map_err(|refusal| *refusal)?;
+        Ok(match self.test {
+            Test::Board => replies_of(BoardTest, self, table),
+            Test::Bus => replies_of(BusTest, self, table),
+        })
     }
 }

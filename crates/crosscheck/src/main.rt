@@ -5,16 +5,31 @@
 mod answers;
 mod questions;
 
+use answers::Replies;
 use questions::Question;
-use std::io::{BufRead, BufReader};
+use std::io;
+use timing::refusals::ItemRefusal;
 
-fn answer_lines(rt: &HostRuntime) -> anyhow::Result<()> {
+fn print_answer(rt: &impl Print, answer: &Result<Replies, ItemRefusal>) -> io::Result<()> {
+    match answer {
+        Ok(replies) => println!(rt; "{replies}"),
+        Err(refusal) => {
+            let number = refusal.number();
+            let ItemRefusal::OutsideLimits {
+                length,
+                period,
+                window,
+            } = refusal;
+            println!(rt; "refused {number} {length} {period} {window}")
+        }
+    }
+}
+
+fn answer_lines(rt: &(impl AllocGlobal + Input + Print)) -> anyhow::Result<()> {
     let heap = rt.alloc();
-    for line in BufReader::new(heap, rt.stdin())?.lines(heap) {
-        let line = line?;
-        let question = Question::read(heap, line.as_str())?;
-        let answer = question.answer();
-        println!(rt; "{answer}")?;
+    for line in rt.lines(heap) {
+        let question = Question::read(heap, line?.as_str())?;
+        print_answer(rt, &question.answer())?;
     }
     Ok(())
 }
