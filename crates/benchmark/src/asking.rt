@@ -1,6 +1,8 @@
 // Asking, and counting what is answered.
-ghost use Rattle.std.specs.Prelude.{◌≡◌, ◌+◌, ◌-◌, ◌*◌, ◌%◌, ◌^◌, if◌then◌else◌, Some as Time, None as NoTime, nat_lt};
+ghost use Rattle.std.specs.Prelude.{◌≡◌, ◌+◌, ◌-◌, ◌*◌, ◌%◌, ◌^◌, if◌then◌else◌, Some, None, nat_lt};
 
+use super::reading::Task;
+use std::fmt;
 use timing::items::Item;
 use timing::places::PlaceSet;
 use timing::timed_test::TimedTest;
@@ -8,34 +10,34 @@ use timing_tests::board::BoardTest;
 use timing_tests::bus::BusTest;
 
 // How many questions had a response, and the sum of the responses.
-#[derive(Clone, Copy)]
+#[derive(Clone, Copy, Default)]
 pub struct Tally {
     pub passes: u64,
     pub sum: u64,
 }
 
-impl Tally {
-    fn none() -> Tally
-        ensures { result ≡ record { passes = 0; sum = 0 } }
-    {
-        Tally { passes: 0, sum: 0 }
-    }
+// What both tests answered.
+#[derive(Clone, Copy, Default)]
+pub struct Tallies {
+    pub board: Tally,
+    pub bus: Tally,
+}
 
+impl fmt::Display for Tally {
+    fn fmt<W: fmt::Write>(&self, f: &mut fmt::Formatter<W>) -> fmt::Result {
+        write!(f, "{} {}", self.passes, self.sum)
+    }
+}
+
+impl Tally {
     fn add(&mut self, response: Option<u32>)
-        ensures { elim response [ NoTime ↦ self.new ≡ self.old | Time t ↦ self.new ≡ record { passes = (self.old.passes + 1) % 2 ^ 64; sum = (self.old.sum + t) % 2 ^ 64 } ] }
+        ensures { elim response [ None ↦ self.new ≡ self.old | Some t ↦ self.new ≡ record { passes = (self.old.passes + 1) % 2 ^ 64; sum = (self.old.sum + t) % 2 ^ 64 } ] }
     {
         if let Some(response) = response {
             self.passes = self.passes.wrapping_add(1);
             self.sum = self.sum.wrapping_add(u64::from(response));
         }
     }
-}
-
-// The number that the sets of the next question are drawn from.
-fn next_draw(x: u32) -> u32
-    ensures { result ≡ (x * 1664525 + 1013904223) % 2 ^ 32 }
-{
-    x.wrapping_mul(1_664_525).wrapping_add(1_013_904_223)
 }
 
 // The places of a table of `n` items, as far as a set can hold them.
@@ -49,32 +51,54 @@ fn all_places(n: usize) -> PlaceSet
     }
 }
 
-// Asks both tests about every place once, and gives the last number drawn.
-fn ask_places(table: &[Item], first: u32, board: &mut Tally, bus: &mut Tally) -> u32 {
-    let all = all_places(table.len());
-    let mut x = first;
-    for place in 0..table.len() {
-        x = next_draw(x);
-        let others = all.without(place);
-        let above = PlaceSet {
-            bits: x & others.bits,
-        };
-        let below = PlaceSet {
-            bits: !x & others.bits,
-        };
-        board.add(BoardTest.response(table, place, above, below));
-        bus.add(BusTest.response(table, place, above, below));
-    }
-    x
+// The numbers that the sets of the questions are drawn from, each made of the one before.
+#[derive(Drop)]
+struct Draws {
+    last: u32,
 }
 
-// What the board test and the bus test answer.
-pub(super) fn ask(rounds: u32, table: &[Item]) -> (Tally, Tally) {
-    let mut board = Tally::none();
-    let mut bus = Tally::none();
-    let mut x = 1;
-    for _ in 0..rounds {
-        x = ask_places(table, x, &mut board, &mut bus);
+impl Iterator for Draws {
+    type Item = u32;
+
+    ghost next_gives = { λ old result new. (result ≡ Some new.last) × (new.last ≡ (old.last * 1664525 + 1013904223) % 2 ^ 32) };
+
+    fn next(&mut self) -> Option<u32> {
+        self.last = self
+            .last
+            .wrapping_mul(1_664_525)
+            .wrapping_add(1_013_904_223);
+        Some(self.last)
     }
-    (board, bus)
+}
+
+impl Tallies {
+    // Asks both tests about a place, with the other places divided by the bits of a number.
+    fn ask(&mut self, table: &[Item], place: usize, drawn: u32) {
+        let others = all_places(table.len()).without(place);
+        let above = PlaceSet {
+            bits: drawn & others.bits,
+        };
+        let below = PlaceSet {
+            bits: !drawn & others.bits,
+        };
+        self.board
+            .add(BoardTest.response(table, place, above, below));
+        self.bus.add(BusTest.response(table, place, above, below));
+    }
+}
+
+impl Task {
+    // What the board test and the bus test answer.
+    pub(super) fn ask(&self) -> Tallies {
+        let table = self.table.as_slice();
+        let mut draws = Draws { last: 1 };
+        let mut tallies = Tallies::default();
+        for _ in 0..self.rounds {
+            // A place is what is asked about, so places are counted.
+            for (place, drawn) in (0..table.len()).zip(&mut draws) {
+                tallies.ask(table, place, drawn);
+            }
+        }
+        tallies
+    }
 }

@@ -5,17 +5,17 @@
 mod asking;
 mod reading;
 
-use asking::ask;
-use reading::read_task;
+use asking::Tallies;
+use reading::Task;
 use std::io;
 
-fn run(rt: &HostRuntime) -> anyhow::Result<()> {
+fn run(rt: &(impl AllocGlobal + Input + Print)) -> anyhow::Result<()> {
     let heap = rt.alloc();
-    let text = io::read_to_string(heap, rt.stdin())?;
-    let task = read_task(heap, text.as_str().trim_end())?;
-    let (board, bus) = ask(task.rounds, task.table.as_slice());
-    println!(rt; "board {} {}", board.passes, board.sum)?;
-    println!(rt; "bus {} {}", bus.passes, bus.sum)?;
+    let text = io::read_to_string(heap, rt.reader())?;
+    let task = Task::read(heap, text.as_str().trim_end())?;
+    let Tallies { board, bus } = task.ask();
+    println!(rt; "board {board}")?;
+    println!(rt; "bus {bus}")?;
     Ok(())
 }
 
