@@ -30,6 +30,7 @@ impl fmt::Display for Tally {
 }
 
 impl Tally {
+    // Counts what a test answered.
     fn add(&mut self, response: Option<u32>)
         ensures { elim response [ None ↦ self.new ≡ self.old | Some t ↦ self.new ≡ record { passes = (self.old.passes + 1) % 2 ^ 64; sum = (self.old.sum + t) % 2 ^ 64 } ] }
     {

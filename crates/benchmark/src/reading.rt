@@ -3,6 +3,7 @@ use anyhow::{anyhow, bail};
 use std::alloc::Global;
 use timing::items::Item;
 
+// What is to be asked: a table, and how many times over.
 #[derive(Drop)]
 pub struct Task {
     pub rounds: u32,
@@ -10,6 +11,7 @@ pub struct Task {
 }
 
 impl Task {
+    // The whole line is read before any item is made.
     pub(super) fn read(heap: Global, line: &str) -> anyhow::Result<Task> {
         let numbers = line
             .split(' ')

@@ -68,6 +68,7 @@ fn replies_of<T: TimedTest + Copy>(test: T, question: &Question, table: &[Item])
 }
 
 impl Question {
+    // What the test says; or, where no table could be made, the refusal of the item.
     pub(super) fn answer(&self) -> Result<Replies, ItemRefusal>
         ensures { result ≡ answer_to self.now }
     {

@@ -10,6 +10,7 @@ use questions::Question;
 use std::io;
 use timing::refusals::ItemRefusal;
 
+// Prints an answer as a line.
 fn print_answer(rt: &impl Print, answer: &Result<Replies, ItemRefusal>) -> io::Result<()> {
     match answer {
         Ok(replies) => println!(rt; "{replies}"),
@@ -25,6 +26,7 @@ fn print_answer(rt: &impl Print, answer: &Result<Replies, ItemRefusal>) -> io::R
     }
 }
 
+// Answers line after line.
 fn answer_lines(rt: &(impl AllocGlobal + Input + Print)) -> anyhow::Result<()> {
     let heap = rt.alloc();
     for line in rt.lines(heap) {

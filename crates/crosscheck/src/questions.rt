@@ -8,6 +8,7 @@ use timing::items::Item;
 use timing::places::PlaceSet;
 use timing::refusals::ItemRefusal;
 
+// Which test is asked.
 #[derive(Clone, Copy)]
 pub enum Test {
     Board,
@@ -28,6 +29,7 @@ impl FromStr for Test {
     }
 }
 
+// A question to a test, alone and with a margin.
 #[derive(Drop)]
 pub struct Question {
     pub test: Test,
