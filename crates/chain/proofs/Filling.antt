@@ -1,10 +1,13 @@
 -- Windows fill the time to the deadline, and each holds its part.
-use Rattle.std.proofs.Common.{◌≡◌, ℕ, zero, suc, ◌+◌, ◌-◌, ◌≤◌, List, [], ◌∷◌, ◌++◌, take, sym, refl, ap, subst, ◌∙◌, add-zero, zero-add, arith}
+use Rattle.std.proofs.Common.{◌≡◌, ℕ, zero, suc, ◌+◌, ◌-◌, ◌≤◌, true, leb, List, [], ◌∷◌, ◌++◌, length, take, sym, refl, ap, subst, ◌∙◌, add-zero, zero-add, arith}
 use Rattle.std.proofs.lemmas.List.Sums.{sum_by-cons}
+use Rattle.std.proofs.lemmas.Bool.{and_parts, leb-true}
 use Rattle.std.specs.List.{AllByRecursion}
 use Rattle.chain.specs.declared.parts.Part.{Part}
 use Rattle.chain.specs.declared.parts.Windowed.{Windowed}
-use Rattle.chain.specs.Parts.{total}
+use Rattle.chain.specs.declared.stages.Stage.{Stage}
+use Rattle.chain.specs.Limits.{all_kept, length_kept, most_ticks, pin_kept, stage_kept}
+use Rattle.chain.specs.Parts.{message_part, parts_from, stage_part, total}
 use Rattle.chain.specs.Windows.{Fill, end, time, windowed, work}
 use Rattle.chain.proofs.Ends.{end-at_last, end-at_start, end-within, ends_apart}
 
@@ -63,3 +66,11 @@ windows-fill deadline ps some fits = record { ends = ends_at; whole = add_up ps 
 -- the same of a row that is known to hold them
 pub row_fills : (deadline : ℕ) (row : List Windowed) (ps : List Part) → row ≡ windowed deadline (total ps) 0 ps → 1 ≤ total ps → total ps ≤ deadline → Fill deadline row
 row_fills deadline row ps is some fits = subst (Fill deadline) (sym is) (windows-fill deadline ps some fits)
+
+-- a chain has a stage, and a stage has a length
+pub some_work : (most : ℕ) (messages boards : List ℕ) (stages : List Stage) → 1 ≤ length stages → all_kept (stage_kept most) stages ≡ true → 1 ≤ total (parts_from messages boards 0 stages)
+some_work most messages boards [] some kept = absurd (omega arith)
+some_work most messages boards (s ∷ stages) some kept =
+    let first = (and_parts (pin_kept most s.pin) (length_kept s.length) (and_parts (stage_kept most s) (all_kept (stage_kept most) stages) kept).0).1 in
+    let long = leb-true 1 s.length (and_parts (leb 1 s.length) (leb s.length most_ticks) first).0 in
+    omega (arith, sum_by-cons (λ (p : Part). p.length) (stage_part boards 0 s) (message_part messages boards 0 ++ parts_from messages boards 1 stages))

@@ -1,5 +1,9 @@
 -- What steps inside the crate promise each other. No public contract cites these.
-use Rattle.std.specs.Prelude.{◌≡◌, ℕ, ◌<◌, Some, None, Option}
+use Rattle.std.specs.Prelude.{◌≡◌, ℕ, ◌<◌, List, ◌++◌, drop, Some, None, Option}
+use Rattle.std.specs.Option.{option_to_list}
+use Rattle.chain.specs.declared.parts.Part.{Part}
+use Rattle.chain.specs.declared.placed.Parts.{Parts}
+use Rattle.chain.specs.Parts.{parts_from}
 use Rattle.chain.specs.declared.paces.Pace.{Pace}
 
 -- A pace of some work to be done at a deadline, answered where the work is within the deadline.
@@ -7,3 +11,7 @@ use Rattle.chain.specs.declared.paces.Pace.{Pace}
 abbrev pub Paced : (deadline work : ℕ) → Option Pace → Type 0
 Paced deadline work (Some p) = (p.work ≡ work) × (p.deadline ≡ deadline)
 Paced deadline work None = deadline < work
+
+-- the parts that are still to come
+abbrev pub left : {S B : ℕ} → Parts S B → List Part
+left p = option_to_list p.message ++ parts_from p.placed.chain.now.messages.items p.placed.boards.now p.stage (drop p.stage p.placed.chain.now.stages.items)

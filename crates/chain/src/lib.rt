@@ -10,6 +10,7 @@ pub mod drafts;
 pub mod headings;
 mod paces;
 pub mod parts;
+mod placed;
 pub mod refusals;
 pub mod stages;
 pub mod windows;

@@ -1,24 +1,19 @@
 // The windows of a chain's parts once each stage has a board.
-ghost use Rattle.std.specs.Prelude.{◌≡◌, ◌+◌, ◌-◌, ◌^◌, ◌<◌, ◌≤◌, [], ◌++◌, IfOk, vec_len, vec_capacity, nat_lt, slice_index};
+ghost use Rattle.std.specs.Prelude.{◌≡◌, ◌+◌, ◌-◌, ◌^◌, ◌<◌, ◌≤◌, [], ◌∷◌, ◌++◌, IfOk, MatchOption, None, Some, vec_len, vec_capacity, nat_lt, slice_index, slice_get};
+ghost use Rattle.std.specs.Iterator.{YieldsFirst, item_count};
 ghost use Rattle.std.specs.Option.{option_to_list};
 ghost use Rattle.chain.specs.Drafting.{contents};
-ghost use Rattle.chain.specs.Parts.{message_part, parts, sent, total};
-ghost use Rattle.chain.specs.Steps.{Paced};
+ghost use Rattle.chain.specs.Parts.{message_part, parts, sent, stage_part, total};
+ghost use Rattle.chain.specs.Steps.{Paced, left};
 ghost use Rattle.chain.specs.Windows.{Fill, Places, end, windowed, windows};
 
 use super::chains::Chain;
 use super::paces::Pace;
 use super::parts::{Part, PartRow, Place, TooLong, Windowed};
+use super::placed::{Parts, Placed};
 use std::alloc::{AllocError, Global};
 
-// A chain on its boards, stage by stage.
-#[derive(Clone, Copy)]
-struct Placed<'a, const S: usize, const B: u8> {
-    chain: &'a Chain<S, B>,
-    boards: &'a [u8],
-}
-
-impl<const S: usize, const B: u8> Placed<'_, S, B> {
+impl<'a, const S: usize, const B: u8> Placed<'a, S, B> {
     // The board of stage `k`, counting from 0; past the row's end 0.
     fn board_of(self, k: usize) -> u8
         ensures { result ≡ slice_index self.entry.boards.now k }
@@ -46,22 +41,66 @@ impl<const S: usize, const B: u8> Placed<'_, S, B> {
         })
     }
 
+    // The stage `k` as a part, where there is one.
+    fn stage_at(self, k: usize) -> Option<Part>
+        ensures { MatchOption (slice_get self.entry.chain.now.stages.items k) (result ≡ None) (λ s. result ≡ Some (stage_part self.entry.boards.now k s)) }
+    {
+        let length = self.chain.stages.get(k)?.length;
+        Some(Part {
+            place: Place::Board(self.board_of(k)),
+            stage: k + 1,
+            length,
+        })
+    }
+
+    // The chain's parts, in order.
+    fn parts(self) -> Parts<'a, S, B>
+        ensures { left result ≡ parts (contents self.entry.chain.now) self.entry.boards.now }
+    {
+        Parts {
+            placed: self,
+            stage: 0,
+            message: None,
+        }
+    }
+
     // The pace of the chain's work, where the parts together are within the deadline.
+    #[tactic(auto, using(crate::proofs::Filling::some_work))]
     fn pace(self) -> Option<Pace>
         ensures { Paced self.entry.chain.now.heading.deadline (total (parts (contents self.entry.chain.now) self.entry.boards.now)) result }
     {
+        let deadline = self.chain.heading.deadline;
         let mut upto = 0u64;
-        for (k, stage) in self.chain.stages.iter().enumerate() {
-            let message = self.message_after(k);
-            upto += u64::from(stage.length) + u64::from(length_of(message));
-            if is_past(self.chain.heading.deadline, upto) {
+        for part in self.parts() {
+            upto += u64::from(part.length);
+            if is_past(deadline, upto) {
                 return None;
             }
         }
         Some(Pace {
-            deadline: self.chain.heading.deadline,
+            deadline,
             work: upto as u32,
         })
+    }
+}
+
+impl<const S: usize, const B: u8> Iterator for Parts<'_, S, B> {
+    type Item = Part;
+
+    ghost next_gives = { YieldsFirst left };
+
+    ghost remaining = { item_count left };
+
+    #[tactic(auto, using(crate::proofs::PartSteps::no_parts, crate::proofs::PartSteps::next_parts))]
+    fn next(&mut self) -> Option<Part> {
+        if let Some(message) = self.message.take() {
+            return Some(message);
+        }
+        let k = self.stage;
+        let stage = self.placed.stage_at(k)?;
+        self.message = self.placed.message_after(k);
+        self.stage = k + 1;
+        Some(stage)
     }
 }
 
@@ -70,13 +109,6 @@ fn is_past(deadline: u32, upto: u64) -> bool
     ensures { result ≡ nat_lt deadline upto }
 {
     upto > u64::from(deadline)
-}
-
-// The length of a part, where there is one.
-fn length_of(part: Option<Part>) -> u32
-    ensures { result ≡ total (option_to_list part) }
-{
-    part.map_or(0, |part| part.length)
 }
 
 impl Pace {
@@ -99,26 +131,20 @@ impl Pace {
     }
 }
 
-// Adds a part, where there is one, with its window, `before` ticks of work being done before it.
-// Answers the work done after it.
-fn put(row: &mut Vec<Windowed>, pace: Pace, before: u32, part: Option<Part>) -> u32
-    requires within { before + total (option_to_list part) ≤ pace.work }
+// Adds a part with its window, `before` ticks of work being done before it.
+fn put(row: &mut Vec<Windowed>, pace: Pace, before: u32, part: Part)
+    requires within { before + part.length ≤ pace.work }
     requires room { vec_len row.old < vec_capacity row.old }
-    ensures after { result ≡ before + total (option_to_list part) }
-    ensures items { row.new.items ≡ row.old.items ++ windowed pace.deadline pace.work before (option_to_list part) }
-    ensures len { vec_len row.new ≤ vec_len row.old + 1 }
+    ensures items { row.new.items ≡ row.old.items ++ windowed pace.deadline pace.work before (part ∷ []) }
+    ensures len { vec_len row.new ≡ vec_len row.old + 1 }
     ensures capacity { vec_capacity row.new ≡ vec_capacity row.old }
 {
-    let Some(part) = part else {
-        return before;
-    };
-    let after = before + part.length;
-    let window = pace.window_of(before, after);
+    let window = pace.window_of(before, before + part.length);
     row.push_reserved(Windowed { part, window });
-    after
 }
 
 // Adds the windows of a chain's parts to an empty row, at the pace of the parts together.
+#[tactic(auto, using(crate::proofs::PartSteps::few_parts))]
 fn fill<const S: usize, const B: u8>(row: &mut Vec<Windowed>, placed: Placed<'_, S, B>, pace: Pace)
     requires work { pace.work ≡ total (parts (contents placed.chain.now) placed.boards.now) }
     requires deadline { pace.deadline ≡ placed.chain.now.heading.deadline }
@@ -129,15 +155,9 @@ fn fill<const S: usize, const B: u8>(row: &mut Vec<Windowed>, placed: Placed<'_,
     ensures capacity { vec_capacity row.new ≡ vec_capacity row.old }
 {
     let mut before = 0u32;
-    for (k, stage) in placed.chain.stages.iter().enumerate() {
-        let part = Part {
-            place: Place::Board(placed.board_of(k)),
-            stage: k + 1,
-            length: stage.length,
-        };
-        let message = placed.message_after(k);
-        before = put(row, pace, before, Some(part));
-        before = put(row, pace, before, message);
+    for part in placed.parts() {
+        put(row, pace, before, part);
+        before += part.length;
     }
 }
 
