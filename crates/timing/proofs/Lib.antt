@@ -1,5 +1,2 @@
-pub mod Choosing
-pub mod Properness
-pub mod Rows
+pub mod LeastEnds
 pub mod SameItem
-pub mod Sets

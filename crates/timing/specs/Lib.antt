@@ -1,4 +1,6 @@
 pub mod Items
 pub mod Laws
+pub mod Lemmas
 pub mod Places
+pub mod RowLaws
 pub mod Rows

@@ -1,9 +1,16 @@
 -- A test described by the item asked and by the rows of items above and below it, as a test of
 -- tables and sets.
-use Rattle.std.specs.Prelude.{◌≡◌, ℕ, Bool, true, cond, List, ◌∷◌, ◌++◌, length, Some, None, Option}
+--   items_of row            the items of a row
+--   by_rows none answer     the answer for the item asked and its rows, as one to a question
+use Rattle.std.specs.Prelude.{ℕ, cond, List, length, Some, None, Option}
 use Rattle.std.specs.List.{slice_get}
 use Rattle.timing.specs.declared.items.Item.{Item}
+use Rattle.timing.specs.declared.rows.Row.{Row}
 use Rattle.timing.specs.Places.{chosen, proper}
+
+-- the items at the places of a row's set, in table order
+abbrev pub items_of : Row → List Item
+items_of row = chosen row.set.bits row.table.now
 
 -- what a question about an item gives, or else what is given where there is none
 abbrev pub of_item : {X : Type 0} → (Item → X) → X → Option Item → X
@@ -16,16 +23,3 @@ by_rows none answer table place above below =
     cond (proper (length table) place above below)
     (of_item (λ x. answer x (chosen above table) (chosen below table)) none (slice_get table place))
     none
-
--- the two laws in terms of rows: `y` is the item moved or left out
-abbrev pub RowStepDown : {S : Type 0} → (S → Item → List Item → List Item → Bool) → Type 0
-RowStepDown {S} passes =
-    (s : S) (x y : Item) (above above' below below' : List Item)
-    → passes s x (above ++ (y ∷ above')) (below ++ below') ≡ true
-    → passes s x (above ++ above') (below ++ (y ∷ below')) ≡ true
-
-abbrev pub RowLeaving : {S : Type 0} → (S → Item → List Item → List Item → Bool) → Type 0
-RowLeaving {S} passes =
-    (s : S) (x y : Item) (above below below' : List Item)
-    → passes s x above (below ++ (y ∷ below')) ≡ true
-    → passes s x above (below ++ below') ≡ true

@@ -7,6 +7,9 @@
 pub mod items;
 pub mod making;
 pub mod places;
+pub mod questions;
 pub mod refusals;
+pub mod row_test;
+pub mod rows;
 pub mod timed_test;
 pub mod timing_test;

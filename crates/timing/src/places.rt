@@ -8,28 +8,13 @@ pub struct PlaceSet {
     pub bits: u32,
 }
 
-// Whether a bit is set.
-fn bit_at(bits: u32, place: usize) -> bool
-    requires { place < most_items }
-    ensures { result ≡ (bits / 2 ^ place % 2 == 1) }
-{
-    (bits >> place) % 2 == 1
-}
-
 // The number with one bit set.
+#[tactic(auto, using(std::proofs::lemmas::Nat::one_shl))]
 fn bit_of(place: usize) -> u32
     requires { place < most_items }
     ensures { result ≡ 2 ^ place }
 {
     1 << place
-}
-
-// Whether bit `place` is set; none is from 32 on.
-fn is_held(bits: u32, place: usize) -> bool
-    ensures held { result ≡ holds bits place }
-    ensures inside { result ≡ true → place < most_items }
-{
-    place < 32 && bit_at(bits, place)
 }
 
 impl PlaceSet {
@@ -40,12 +25,13 @@ impl PlaceSet {
         PlaceSet { bits: 0 }
     }
 
-    // Whether the set holds a place.
+    // Whether the set holds a place; none from 32 on.
+    #[tactic(auto, using(crate::specs::Lemmas::Sets::none_past), unfolding(crate::specs::Places::holds))]
     pub fn has(self, place: usize) -> bool
         ensures held { result ≡ holds self.bits place }
         ensures inside { result ≡ true → place < most_items }
     {
-        is_held(self.bits, place)
+        place < 32 && (self.bits >> place) % 2 == 1
     }
 
     // The set and one place; no place from 32 on is ever in a set.
@@ -103,18 +89,11 @@ fn meets_conditions(n: usize, place: usize, above: PlaceSet, below: PlaceSet) ->
         && !below.has(place)
 }
 
-// The same, with what is meant by it.
-fn is_meant(n: usize, place: usize, above: PlaceSet, below: PlaceSet) -> bool
-    ensures test { result ≡ proper n place above.bits below.bits }
-    ensures means { Decides result (Proper n place above.bits below.bits) }
-{
-    meets_conditions(n, place, above, below)
-}
-
 // Whether a question about a table of `n` items is proper.
+#[tactic(auto, unfolding(crate::specs::Places::proper))]
 pub fn is_proper(n: usize, place: usize, above: PlaceSet, below: PlaceSet) -> bool
     ensures test { result ≡ proper n place above.bits below.bits }
     ensures means { Decides result (Proper n place above.bits below.bits) }
 {
-    is_meant(n, place, above, below)
+    meets_conditions(n, place, above, below)
 }

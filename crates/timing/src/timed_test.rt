@@ -3,8 +3,7 @@ ghost use Rattle.std.specs.Prelude.{◌≡◌, ℕ, List, Option as OptionOf};
 ghost use Rattle.timing.specs.declared.items.Item.{Item as ItemOf};
 ghost use Rattle.timing.specs.Laws.{Timely};
 
-use super::items::Item;
-use super::places::PlaceSet;
+use super::questions::Question;
 use super::timing_test::TimingTest;
 
 // A timed test gives a response, the ticks from an item's release to its end at the latest.
@@ -13,13 +12,7 @@ pub trait TimedTest: TimingTest {
 
     // The response that the test's own definition gives: there is one exactly where the item
     // passes, and it is at most the item's window.
-    fn response(
-        &self,
-        table: &[Item],
-        place: usize,
-        above: PlaceSet,
-        below: PlaceSet,
-    ) -> Option<u32>
-        ensures same { result ≡ time self.now table.now place above.bits below.bits }
-        ensures timely { Timely (Self.TimingTest.meaning self.now table.now place above.bits below.bits) table.now place result };
+    fn response(&self, question: Question<'_>) -> Option<u32>
+        ensures same { result ≡ time self.now question.entry.table.now question.entry.place question.entry.above.bits question.entry.below.bits }
+        ensures timely { Timely (Self.TimingTest.meaning self.now question.entry.table.now question.entry.place question.entry.above.bits question.entry.below.bits) question.entry.table.now question.entry.place result };
 }

@@ -4,17 +4,15 @@ ghost use Rattle.std.specs.Prelude.{◌≡◌, ℕ, Bool, List};
 ghost use Rattle.timing.specs.declared.items.Item.{Item as ItemOf};
 ghost use Rattle.timing.specs.Laws.{ImproperIsNo, Leaving, Local, StepDown};
 
-use super::items::Item;
-use super::places::PlaceSet;
+use super::questions::Question;
 
-// A timing test says of a question yes or no: of a table, does the item at `place` pass with the
-// items of one set above it and those of another below it?
+// A timing test answers a question with yes or no.
 pub trait TimingTest {
     ghost meaning: { Self → List ItemOf → ℕ → ℕ → ℕ → Bool };
 
     // What the meaning says of the question; nothing is changed.
-    fn passes(&self, table: &[Item], place: usize, above: PlaceSet, below: PlaceSet) -> bool
-        ensures { result ≡ meaning self.now table.now place above.bits below.bits };
+    fn passes(&self, question: Question<'_>) -> bool
+        ensures { result ≡ meaning self.now question.entry.table.now question.entry.place question.entry.above.bits question.entry.below.bits };
 
     // Four laws, which each implementation proves. They stand below the last method, where the
     // language looks for laws.

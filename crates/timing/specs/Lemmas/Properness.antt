@@ -4,7 +4,7 @@ use Rattle.std.proofs.Common.{◌≡◌, ℕ, ◌^◌, ◌<◌, Bool, true, fals
 use lib.Bits.{bit_and}
 use Rattle.std.proofs.lemmas.Bool.{and_from, and_parts, both_ways, cases_eq, eq-eqb, eqb-true, le-leb, leb-true, lt-ltb, ltb-true, ne_eqb, not-true, not_from_false}
 use Rattle.timing.specs.Places.{Proper, holds, most_items, proper, with_place, without_place}
-use Rattle.timing.proofs.Sets.{apart_from, apart_says, holds-with, holds-without, inside_from, inside_says}
+use Rattle.timing.specs.Lemmas.Sets.{apart_from, apart_says, holds-with, holds-without, inside_from, inside_says}
 
 pub proper-says : (n place above below : ℕ) → proper n place above below ≡ true → Proper n place above below
 unfolding proper

@@ -6,9 +6,10 @@ use Rattle.std.specs.List.{slice_get}
 use Rattle.timing.specs.declared.items.Item.{Item}
 use Rattle.timing.specs.Laws.{AtMost, ImproperIsNo, Leaving, Local, StepDown, Timely}
 use Rattle.timing.specs.Places.{chosen, proper, with_place, without_place}
-use Rattle.timing.specs.Rows.{RowLeaving, RowStepDown, by_rows, of_item}
-use Rattle.timing.proofs.Choosing.{gained}
-use Rattle.timing.proofs.Properness.{proper-down, proper-from, proper-left, proper-says, with_it, with_other, without_it, without_other}
+use Rattle.timing.specs.RowLaws.{RowLeaving, RowStepDown}
+use Rattle.timing.specs.Rows.{by_rows, of_item}
+use Rattle.timing.specs.Lemmas.Choosing.{gained}
+use Rattle.timing.specs.Lemmas.Properness.{proper-down, proper-from, proper-left, proper-says, with_it, with_other, without_it, without_other}
 
 -- a yes comes from a proper question and from an item
 asked : (p : Bool) (f : Item → Bool) (o : Option Item) → cond p (of_item f false o) false ≡ true → (p ≡ true) × ((x : Item) × (o ≡ Some x) × (f x ≡ true))
