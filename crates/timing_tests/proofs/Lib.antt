@@ -1,4 +1,2 @@
 pub mod Demands
-pub mod Leasts
 pub mod Overload
-pub mod Tests

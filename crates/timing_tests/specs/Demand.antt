@@ -2,9 +2,8 @@
 --   releases inclusive t T     how often an item of period T is released before t, or up to t
 --   interference inclusive above t   the work that the items above bring
 --   longest items              the longest length
---   Least P o                  o is the least number with the property P, or none has it
 --   first_from test k n        the first of the n numbers from k on that passes a test
-use Rattle.std.specs.Prelude.{ℕ, zero, suc, ◌+◌, ◌*◌, ◌/◌, ◌%◌, ◌≤◌, min, max, Bool, true, false, cond, List, [], ◌∷◌, Some, None, sum_by, Option}
+use Rattle.std.specs.Prelude.{ℕ, zero, suc, ◌+◌, ◌*◌, ◌/◌, ◌%◌, min, max, Bool, true, false, cond, List, [], ◌∷◌, Some, None, sum_by, Option}
 use Rattle.timing.specs.declared.items.Item.{Item}
 
 -- before t: t ÷ T rounded up; up to t, its own tick included: t ÷ T rounded down, and one more
@@ -18,10 +17,6 @@ interference inclusive above t = sum_by (λ (x : Item). releases inclusive t x.p
 abbrev pub longest : List Item → ℕ
 longest [] = 0
 longest (x ∷ xs) = max x.length (longest xs)
-
-abbrev pub Least : (ℕ → Type 0) → Option ℕ → Type 0
-Least P (Some t) = P t × ((k : ℕ) → P k → t ≤ k)
-Least P None = (k : ℕ) → P k → ⊥
 
 abbrev pub first_from : (ℕ → Bool) → (k n : ℕ) → Option ℕ
 first_from test k zero = None

@@ -1,6 +1,5 @@
 pub mod Demand
+pub mod Lemmas
 pub mod Margin
 pub mod Steps
 pub mod Tests
-pub mod TestLaws
-pub mod MarginLaws

@@ -4,12 +4,11 @@
 --   board_time, bus_time          the least such time, computed
 --   board_passes, bus_passes      whether there is one
 --   BoardResponse, BusResponse    what a question about a table is answered
-use Rattle.std.specs.Prelude.{◌≡◌, ℕ, ◌+◌, ◌-◌, ◌≤◌, Bool, true, false, List, ◌∷◌, length, is_some, Some, Option, nat_le}
+use Rattle.std.specs.Prelude.{◌≡◌, ℕ, ◌+◌, ◌-◌, ◌≤◌, Bool, true, false, List, ◌∷◌, is_some, Option, nat_le}
 use Rattle.std.specs.Option.{option_map}
-use Rattle.std.specs.List.{slice_get}
 use Rattle.timing.specs.declared.items.Item.{Item}
-use Rattle.timing.specs.Places.{Proper, chosen}
-use Rattle.timing_tests.specs.Demand.{Least, first_from, interference, longest}
+use Rattle.timing.specs.RowLaws.{LeastEnd}
+use Rattle.timing_tests.specs.Demand.{first_from, interference, longest}
 
 -- On a board a higher item interrupts: t ticks have to cover the item itself and every release of
 -- the items above before t.
@@ -48,18 +47,12 @@ bus_time x above below =
 abbrev pub bus_passes : Item → (above below : List Item) → Bool
 bus_passes x above below = is_some (bus_time x above below)
 
--- Of a table: the least time at which the item asked can end with the items of one set above it
--- and those of the other below it; none if there is no such time or the question is improper.
-pub record Asked (table : List Item) (place above below : ℕ) (Ends : Item → List Item → List Item → Type 0) : Type 0 where
-  pub proper : Proper (length table) place above below
-  pub item : Item
-  pub is : slice_get table place ≡ Some item
-  pub ends : Ends item (chosen above table) (chosen below table)
-
+-- What the answer to a question about a table is: the least of those times, none if there is none or
+-- the question is improper.
 abbrev pub BoardResponse : (table : List Item) (place above below : ℕ) → Option ℕ → Type 0
 BoardResponse table place above below r =
-    Least (λ t. Asked table place above below (λ x up down. BoardEnds x up t)) r
+    LeastEnd (λ x up down. BoardEnds x up) table place above below r
 
 abbrev pub BusResponse : (table : List Item) (place above below : ℕ) → Option ℕ → Type 0
 BusResponse table place above below r =
-    Least (λ t. Asked table place above below (λ x up down. BusEnds x up down t)) r
+    LeastEnd BusEnds table place above below r

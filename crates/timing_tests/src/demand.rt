@@ -1,11 +1,12 @@
 // How much work a time has to cover, and the least time that covers it.
-ghost use Rattle.std.specs.Prelude.{◌≡◌, ◌+◌, ◌*◌, ◌^◌, ◌≤◌, ◌∷◌, length, nat_le, nat_lt};
-ghost use Rattle.timing.specs.Places.{chosen};
-ghost use Rattle.timing_tests.specs.Demand.{Least, interference, longest, releases};
+ghost use Rattle.std.specs.Prelude.{◌≡◌, ◌*◌, ◌^◌, ◌≤◌, ◌∷◌};
+ghost use Rattle.timing.specs.RowLaws.{Least};
+ghost use Rattle.timing.specs.Rows.{items_of};
+ghost use Rattle.timing_tests.specs.Demand.{interference, longest, releases};
 ghost use Rattle.timing_tests.specs.Steps.{Covered, first, overload, share, shares};
 
 use timing::items::Item;
-use timing::places::PlaceSet;
+use timing::rows::Row;
 
 // The functions below that have a parameter INCLUSIVE serve both tests, which differ in the releases
 // that count up to a tick t: on a board those before it, on the bus those at it too.
@@ -55,29 +56,20 @@ fn work_of<const INCLUSIVE: bool>(item: Item, t: u32) -> u32
 
 // The work that the items above bring. An item's work is worked out before its bit is looked at: a
 // jump over it would be foreseen wrongly half the time, which costs more than the work.
-fn interference_of<const INCLUSIVE: bool>(table: &[Item], above: PlaceSet, t: u32) -> u32
-    requires few { length table.now ≤ 32 }
-    requires small { t ≤ 1000000 }
-    ensures sum { result ≡ interference INCLUSIVE (chosen above.bits table.now) t }
+#[tactic(auto, using(timing::specs::Lemmas::Choosing::chosen_skipped, crate::proofs::Demands::interference_taken))]
+fn interference_of<const INCLUSIVE: bool>(above: Row<'_>, t: u32) -> u32
+    requires { t ≤ 1000000 }
+    ensures sum { result ≡ interference INCLUSIVE (items_of above.entry) t }
     ensures small { result ≤ 64000000 }
 {
     let mut sum = 0u32;
-    let mut place = 0usize;
-    for item in table {
+    for (place, item) in above.table.iter().enumerate() {
         let work = work_of::<INCLUSIVE>(*item, t);
-        if above.has(place) {
+        if above.set.has(place) {
             sum += work;
         }
-        place += 1;
     }
     sum
-}
-
-// Whether a time covers its demand.
-fn covers(demand: u32, t: u32) -> bool
-    ensures { result ≡ nat_le demand t }
-{
-    demand <= t
 }
 
 // What an item takes of a board or of the bus, in units of 2 ^ 32 to the whole, rounded down.
@@ -89,35 +81,25 @@ fn share_of(item: Item) -> u64
 }
 
 // What the items above take together.
-fn shares_of(table: &[Item], above: PlaceSet) -> u64
-    requires { length table.now ≤ 32 }
-    ensures sum { result ≡ shares (chosen above.bits table.now) }
+#[tactic(auto, using(timing::specs::Lemmas::Choosing::chosen_skipped, crate::proofs::Demands::shares_taken))]
+fn shares_of(above: Row<'_>) -> u64
+    ensures sum { result ≡ shares (items_of above.entry) }
     ensures small { result ≤ 32 * 2 ^ 32 }
 {
     let mut sum = 0u64;
-    let mut place = 0usize;
-    for item in table {
-        if above.has(place) {
+    for (place, item) in above.table.iter().enumerate() {
+        if above.set.has(place) {
             sum += share_of(*item);
         }
-        place += 1;
     }
     sum
 }
 
-// Whether shares come to more than the whole.
-fn is_over(shares: u64) -> bool
-    ensures { result ≡ nat_lt (2 ^ 32) shares }
-{
-    shares > 4_294_967_296
-}
-
 // Whether an item and the items above need more than the whole board or bus.
-fn is_overload(item: Item, table: &[Item], above: PlaceSet) -> bool
-    requires { length table.now ≤ 32 }
-    ensures { result ≡ overload item (chosen above.bits table.now) }
+fn is_overload(item: Item, above: Row<'_>) -> bool
+    ensures { result ≡ overload item (items_of above.entry) }
 {
-    is_over(share_of(item) + shares_of(table, above))
+    share_of(item) + shares_of(above) > 4_294_967_296
 }
 
 // The least time up to `limit` that covers `base`, in which the item itself is counted, and what
@@ -126,17 +108,15 @@ fn is_overload(item: Item, table: &[Item], above: PlaceSet) -> bool
 // there is none up to the item's period, and none is looked for past the first turns; those settle
 // most questions, and cost less than the shares.
 pub(super) fn settled<const INCLUSIVE: bool>(
-    table: &[Item],
-    above: PlaceSet,
+    above: Row<'_>,
     item: Item,
     base: u32,
     limit: u32,
 ) -> Option<u32>
-    requires few { length table.now ≤ 32 }
     requires own { item.length ≤ base }
     requires based { base ≤ 1000000 }
     requires limited { limit ≤ item.period }
-    ensures { Least (Covered INCLUSIVE (chosen above.bits table.now) base limit) result }
+    ensures { Least (Covered INCLUSIVE (items_of above.entry) base limit) result }
 {
     let mut t = base;
     // each turn raises t by a tick at least, so these are enough for any limit
@@ -144,11 +124,11 @@ pub(super) fn settled<const INCLUSIVE: bool>(
         if t > limit {
             return None;
         }
-        let demand = base + interference_of::<INCLUSIVE>(table, above, t);
-        if covers(demand, t) {
+        let demand = base + interference_of::<INCLUSIVE>(above, t);
+        if demand <= t {
             return Some(t);
         }
-        if turn == 8 && is_overload(item, table, above) {
+        if turn == 8 && is_overload(item, above) {
             return None;
         }
         t = demand;
@@ -156,27 +136,25 @@ pub(super) fn settled<const INCLUSIVE: bool>(
     None
 }
 
-// The longest length of the items of a set, 0 where it holds none.
-fn longest_of(table: &[Item], set: PlaceSet) -> u32
-    ensures longest { result ≡ longest (chosen set.bits table.now) }
+// The longest length of the items of a row, 0 where it has none.
+#[tactic(auto, using(timing::specs::Lemmas::Choosing::chosen_skipped, crate::proofs::Demands::longest_taken, crate::proofs::Demands::longest_small))]
+fn longest_of(row: Row<'_>) -> u32
+    ensures longest { result ≡ longest (items_of row.entry) }
     ensures small { result ≤ 1000000 }
 {
     let mut most = 0u32;
-    let mut place = 0usize;
-    for item in table {
-        let length = item.length;
-        if set.has(place) {
-            most = most.max(length);
+    for (place, item) in row.table.iter().enumerate() {
+        if row.set.has(place) {
+            most = most.max(item.length);
         }
-        place += 1;
     }
     most
 }
 
 // The longest length among an item and the items below it.
-pub(super) fn blocking_of(item: Item, table: &[Item], below: PlaceSet) -> u32
-    ensures longest { result ≡ longest (item ∷ chosen below.bits table.now) }
+pub(super) fn blocking_of(item: Item, below: Row<'_>) -> u32
+    ensures longest { result ≡ longest (item ∷ items_of below.entry) }
     ensures small { result ≤ 1000000 }
 {
-    item.length.max(longest_of(table, below))
+    item.length.max(longest_of(below))
 }

@@ -2,10 +2,10 @@
 ghost use Rattle.std.specs.Prelude.{◌≡◌, ◌<◌, ◌≤◌, false, length, take, None as NoTime, slice_set};
 ghost use Rattle.timing_tests.specs.Margin.{margin};
 ghost use Rattle.timing_tests.specs.Steps.{Narrowed, Tightened};
-ghost use Rattle.timing_tests.specs.MarginLaws.{margin-improper, margin-local, margin-down, margin-leaving};
+ghost use Rattle.timing_tests.specs.Lemmas.MarginLaws.{margin-improper, margin-local, margin-down, margin-leaving};
 
 use timing::items::Item;
-use timing::places::{PlaceSet, is_proper};
+use timing::questions::Question;
 use timing::timed_test::TimedTest;
 use timing::timing_test::TimingTest;
 
@@ -44,22 +44,14 @@ fn replaced(table: &[Item], place: usize, item: Item) -> [Item; 32]
 }
 
 // The table that the test below is asked about, behind which the copy is filled up.
-fn narrowed(
-    table: &[Item],
-    place: usize,
-    above: PlaceSet,
-    below: PlaceSet,
-    ticks: u32,
-) -> Option<[Item; 32]>
-    ensures { Narrowed ticks table.now place above.bits below.bits result }
+fn narrowed(question: Question<'_>, ticks: u32) -> Option<[Item; 32]>
+    ensures { Narrowed ticks question.entry.table.now question.entry.place question.entry.above.bits question.entry.below.bits result }
 {
-    if !is_proper(table.len(), place, above, below) {
+    if !question.is_proper() {
         return None;
     }
-    let Some(item) = tightened(table[place], ticks) else {
-        return None;
-    };
-    Some(replaced(table, place, item))
+    let item = tightened(question.table[question.place], ticks)?;
+    Some(replaced(question.table, question.place, item))
 }
 
 impl<T: TimingTest> TimingTest for Margin<T> {
@@ -73,27 +65,21 @@ impl<T: TimingTest> TimingTest for Margin<T> {
 
     ghost leaving = { margin-leaving T.TimingTest.meaning (λ m. m.test) (λ m. m.ticks) T.TimingTest.leaving };
 
-    fn passes(&self, table: &[Item], place: usize, above: PlaceSet, below: PlaceSet) -> bool {
-        let Some(tight) = narrowed(table, place, above, below, self.ticks) else {
+    fn passes(&self, question: Question<'_>) -> bool {
+        let Some(tight) = narrowed(question, self.ticks) else {
             return false;
         };
-        self.test
-            .passes(&tight[0..table.len()], place, above, below)
+        let table = &tight[0..question.table.len()];
+        self.test.passes(Question { table, ..question })
     }
 }
 
 impl<T: TimedTest> TimedTest for Margin<T> {
     ghost time = { λ m. margin NoTime (T.TimedTest.time m.test) m.ticks };
 
-    fn response(
-        &self,
-        table: &[Item],
-        place: usize,
-        above: PlaceSet,
-        below: PlaceSet,
-    ) -> Option<u32> {
-        let tight = narrowed(table, place, above, below, self.ticks)?;
-        self.test
-            .response(&tight[0..table.len()], place, above, below)
+    fn response(&self, question: Question<'_>) -> Option<u32> {
+        let tight = narrowed(question, self.ticks)?;
+        let table = &tight[0..question.table.len()];
+        self.test.response(Question { table, ..question })
     }
 }

@@ -1,9 +1,10 @@
 -- The items at a set's places. Assumes nothing.
-use Rattle.std.proofs.Common.{◌≡◌, ℕ, zero, suc, ◌+◌, ◌<◌, ◌≤◌, true, false, cond, List, [], ◌∷◌, ◌++◌, length, get_or, drop, set, Some, sym, refl, ap, ◌∙◌, ⊎_elim, arith}
-use Rattle.std.proofs.lemmas.List.{at_drop_all, at_drop_more}
+use Rattle.std.proofs.Common.{◌≡◌, ℕ, zero, suc, ◌+◌, ◌<◌, ◌≤◌, Bool, true, false, cond, List, [], ◌∷◌, ◌++◌, length, get_or, take, set, Some, sym, refl, ap, ◌∙◌, ⊎_elim, arith}
+use Rattle.std.proofs.lemmas.List.{append-nil, length-take-le, take_more}
+use Rattle.std.proofs.lemmas.Option.{slice_get_read}
 use Rattle.std.proofs.lemmas.Bool.{cases_Bool, cond-true, cond-false}
 use Rattle.std.specs.List.{slice_get}
-use Rattle.timing.specs.Places.{chosen_from, holds}
+use Rattle.timing.specs.Places.{chosen, chosen_from, holds}
 
 -- sets that agree on the places of a row choose the same
 pub chosen-agree : {X : Type 0} (a b k : ℕ) (xs : List X) → ((j : ℕ) → k ≤ j → holds a j ≡ holds b j) → chosen_from a k xs ≡ chosen_from b k xs
@@ -69,14 +70,36 @@ chosen-set m k zero (x ∷ xs) y out =
 chosen-set m k (suc i) (x ∷ xs) y out =
     ap (λ r. cond (holds m k) (x ∷ r) r) (chosen-set m (k + 1) i xs y (ap (holds m) (omega arith) ∙ out))
 
--- one turn of a loop over a table, with the place counted beside it
-pub chosen-more : {X : Type 0} (m k : ℕ) (xs : List X) (x : X) → k < length xs → x ≡ get_or xs k x → chosen_from m k (drop k xs) ≡ cond (holds m k) (x ∷ chosen_from m (k + 1) (drop (k + 1) xs)) (chosen_from m (k + 1) (drop (k + 1) xs))
-chosen-more m k xs x within is =
-    at_drop_more (chosen_from m k) xs k x within
-    ∙ ap (λ y. chosen_from m k (y ∷ drop (k + 1) xs)) (sym is)
+-- What a set chooses of the items that a loop over a table has passed, with the place counted beside
+-- them: one more, or none, with each turn.
+chosen-append : {X : Type 0} (m k : ℕ) (xs ys : List X) → chosen_from m k (xs ++ ys) ≡ chosen_from m k xs ++ chosen_from m (k + length xs) ys
+chosen-append m k [] ys = ap (λ n. chosen_from m n ys) (omega arith)
+chosen-append m k (x ∷ xs) ys =
+    ap (λ r. cond (holds m k) (x ∷ r) r) (chosen-append m (k + 1) xs ys)
+    ∙ front (holds m k)
+    ∙ ap (λ n. cond (holds m k) (x ∷ chosen_from m (k + 1) xs) (chosen_from m (k + 1) xs) ++ chosen_from m n ys) (omega arith)
+  where
+    front : (t : Bool) → cond t (x ∷ (chosen_from m (k + 1) xs ++ chosen_from m (k + 1 + length xs) ys)) (chosen_from m (k + 1) xs ++ chosen_from m (k + 1 + length xs) ys) ≡ cond t (x ∷ chosen_from m (k + 1) xs) (chosen_from m (k + 1) xs) ++ chosen_from m (k + 1 + length xs) ys
+    front true = refl
+    front false = refl
 
-pub chosen-all : {X : Type 0} (m k : ℕ) (xs : List X) → length xs ≤ k → chosen_from m k (drop k xs) ≡ []
-chosen-all m k xs past = at_drop_all (chosen_from m k) xs k past
+chosen-turn : {X : Type 0} (m k : ℕ) (xs : List X) (x : X) → k < length xs → x ≡ get_or xs k x → chosen m (take (k + 1) xs) ≡ chosen m (take k xs) ++ cond (holds m k) (x ∷ []) []
+chosen-turn m k xs x within is =
+    ap (chosen m) (take_more xs k x within ∙ ap (λ y. take k xs ++ (y ∷ [])) (sym is))
+    ∙ chosen-append m 0 (take k xs) (x ∷ [])
+    ∙ ap (λ n. chosen m (take k xs) ++ chosen_from m n (x ∷ [])) (let e = length-take-le k xs (omega arith) in omega arith)
+
+pub chosen_taken : {X : Type 0} (m k : ℕ) (xs : List X) (x : X) → k < length xs → x ≡ get_or xs k x → holds m k ≡ true → chosen m (take (k + 1) xs) ≡ chosen m (take k xs) ++ (x ∷ [])
+chosen_taken m k xs x within is has =
+    chosen-turn m k xs x within is ∙ ap (λ r. chosen m (take k xs) ++ r) (cond-true (holds m k) _ _ has)
+
+pub chosen_skipped : {X : Type 0} (m k : ℕ) (xs : List X) (x : X) → k < length xs → x ≡ get_or xs k x → holds m k ≡ false → chosen m (take (k + 1) xs) ≡ chosen m (take k xs)
+chosen_skipped m k xs x within is has =
+    chosen-turn m k xs x within is ∙ ap (λ r. chosen m (take k xs) ++ r) (cond-false (holds m k) _ _ has) ∙ append-nil (chosen m (take k xs))
+
+-- the item that code reads at a place inside a table
+pub item_read : {X : Type 0} (xs : List X) (i : ℕ) (x : X) → i < length xs → x ≡ get_or xs i x → slice_get xs i ≡ Some (get_or xs i x)
+item_read xs i x inside is = slice_get_read xs _ i x refl inside is ∙ ap Some is
 
 -- the item at a place inside a table, and what stands there after a write
 pub item_there : {X : Type 0} (xs : List X) (i : ℕ) → i < length xs → (x : X) × (slice_get xs i ≡ Some x)

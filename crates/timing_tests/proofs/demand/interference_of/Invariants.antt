@@ -1,13 +1,11 @@
-use Rattle.std.proofs.Common.{◌≡◌, ◌+◌, ◌*◌, ◌≤◌, length, drop}
-use Rattle.timing.specs.Places.{chosen, chosen_from}
+use Rattle.std.proofs.Common.{◌≡◌, ◌*◌, ◌≤◌, take}
+use Rattle.timing.specs.Places.{chosen}
 use Rattle.timing_tests.specs.Demand.{interference}
 use denote.Param.{number}
 use Rattle.timing_tests.specs.contracts.demand.interference_of.{INCLUSIVE-type}
 use Rattle.timing_tests.proofs.demand.interference_of.Given as goal
 
-abbrev pub invariant-loop-item : goal.invariant-loop-item
-invariant-loop-item g l =
-    (l.place ≡ l.item-index)
-    × (l.item-index ≤ length l.table)
-    × (l.sum ≤ 2000000 * l.item-index)
-    × (l.sum + interference (INCLUSIVE-type (number g.row.INCLUSIVE)) (chosen_from l.above.bits l.item-index (drop l.item-index l.table)) l.t ≡ interference (INCLUSIVE-type (number g.row.INCLUSIVE)) (chosen l.above.bits l.table) l.t)
+abbrev pub invariant-loop-place : goal.invariant-loop-place
+invariant-loop-place g l =
+    (l.sum ≡ interference (INCLUSIVE-type (number g.row.INCLUSIVE)) (chosen l.above.set.bits (take l.place l.above.table.now)) l.t)
+    × (l.sum ≤ 2000000 * l.place)

@@ -1,11 +1,7 @@
-use Rattle.std.proofs.Common.{◌≡◌, ◌≤◌, max, length, drop}
-use Rattle.timing.specs.Places.{chosen, chosen_from}
+use Rattle.std.proofs.Common.{◌≡◌, take}
+use Rattle.timing.specs.Places.{chosen}
 use Rattle.timing_tests.specs.Demand.{longest}
 use Rattle.timing_tests.proofs.demand.longest_of.Given as goal
 
-abbrev pub invariant-loop-item : goal.invariant-loop-item
-invariant-loop-item l =
-    (l.place ≡ l.item-index)
-    × (l.item-index ≤ length l.table)
-    × (l.most ≤ 1000000)
-    × (max l.most (longest (chosen_from l.set.bits l.item-index (drop l.item-index l.table))) ≡ longest (chosen l.set.bits l.table))
+abbrev pub invariant-loop-place : goal.invariant-loop-place
+invariant-loop-place l = l.most ≡ longest (chosen l.row.set.bits (take l.place l.row.table.now))

@@ -1,5 +1,5 @@
 use Rattle.std.proofs.Common.{◌≡◌, ℕ, ◌+◌, ◌^◌, ◌<◌, ◌≤◌, false, sym, ⊎_elim, arith}
-use Rattle.std.proofs.lemmas.Bool.{cases_lt, leb-false, ltb-true}
+use Rattle.std.proofs.lemmas.Bool.{cases_lt, ltb-true}
 use Rattle.timing.specs.Places.{chosen}
 use Rattle.timing_tests.specs.Demand.{interference}
 use Rattle.timing_tests.specs.Steps.{overload, share, shares}
@@ -13,7 +13,7 @@ use Rattle.timing_tests.proofs.demand.settled.Goals.{else-turn-eq8-via-then-turn
 pub returns-then-is_overload : goal.returns-then-is_overload
 returns-then-is_overload g c k covered =
     let inclusive = INCLUSIVE-type (number g.row.INCLUSIVE) in
-    let above = chosen c.args.above.bits c.args.table.now in
+    let above = chosen c.args.above.set.bits c.args.above.table.now in
     let over : 2 ^ 32 < share c.args.item + shares above = ltb-true (2 ^ 32) _ (sym c.if-is_overload.ensures) in
     let never : k < c.args.base + interference inclusive above k =
     overload-never_ends inclusive c.args.item above c.args.base k over c.requires.own (omega arith) in
@@ -22,9 +22,9 @@ returns-then-is_overload g c k covered =
 pub loop-turn-preserved : goal.loop-turn-preserved
 loop-turn-preserved g c =
     let inclusive = INCLUSIVE-type (number g.row.INCLUSIVE) in
-    let above = chosen c.args.above.bits c.args.table.now in
+    let above = chosen c.args.above.set.bits c.args.above.table.now in
     let t = c.loop-turn.t in
-    let past : t < c.args.base + c.interference_of.result = leb-false _ t (sym c.if-covers.ensures) in
+    let past : t < c.args.base + c.interference_of.result = c.if-demand-t.false in
     let none : (k : ℕ) → k < c.args.base + c.interference_of.result → k < c.args.base + interference inclusive above k =
     λ k below. ⊎_elim (c.loop-turn.invariant.1 k)
     (λ later.

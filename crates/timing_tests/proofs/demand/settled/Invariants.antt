@@ -10,5 +10,5 @@ use Rattle.timing_tests.proofs.demand.settled.Given as goal
 abbrev pub invariant-loop-turn : goal.invariant-loop-turn
 invariant-loop-turn g l =
     (l.base + l.turn ≤ l.t)
-    × NoneBefore (INCLUSIVE-type (number g.row.INCLUSIVE)) (chosen l.above.bits l.table) l.base l.t
-    × (8 < l.turn → overload l.item (chosen l.above.bits l.table) ≡ false)
+    × NoneBefore (INCLUSIVE-type (number g.row.INCLUSIVE)) (chosen l.above.set.bits l.above.table.now) l.base l.t
+    × (8 < l.turn → overload l.item (chosen l.above.set.bits l.above.table.now) ≡ false)

@@ -1,15 +1,16 @@
 use Rattle.std.proofs.Common.{◌≡◌, ◌-◌, length, take, Some, None, sym, ap, ◌∙◌, arith}
 use Rattle.timing_tests.specs.Margin.{narrowed_table, of_table}
-use Rattle.timing_tests.specs.MarginLaws.{margin-timely}
+use Rattle.timing_tests.specs.Lemmas.MarginLaws.{margin-timely}
 use Rattle.timing_tests.proofs.margin.MarginTimedTest.response.Goals as goal
 
 pub returns : goal.returns
 returns g c =
     let self = c.args.self.now in
-    let table = c.args.table.now in
-    let place = c.args.place in
-    let above = c.args.above.bits in
-    let below = c.args.below.bits in
+    let q = c.args.question in
+    let table = q.table.now in
+    let place = q.place in
+    let above = q.above.bits in
+    let below = q.below.bits in
     let tight = take (length table - 0) c.in_ok-tight.tight in
     let whole : length table ≡ length table - 0 = omega arith in
     let is : narrowed_table self.ticks table place above below ≡ Some tight =

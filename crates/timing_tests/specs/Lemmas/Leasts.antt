@@ -2,7 +2,9 @@
 use Rattle.std.proofs.Common.{◌≡◌, ℕ, zero, suc, ◌+◌, ◌<◌, ◌≤◌, Bool, true, false, Some, None, Option, sym, refl, ap, ◌∙◌, subst, ⊎_elim, le_antisymm, arith}
 use Rattle.std.proofs.lemmas.Bool.{both_ways, cases_Bool, cases_eq, cond-true, cond-false}
 use Rattle.std.specs.Option.{option_map}
-use Rattle.timing_tests.specs.Demand.{Least, first_from}
+use Rattle.timing.specs.RowLaws.{Least}
+use Rattle.timing.proofs.LeastEnds.{least_like}
+use Rattle.timing_tests.specs.Demand.{first_from}
 
 -- there is but one least number
 pub least_unique : (P : ℕ → Type 0) (a b : Option ℕ) → Least P a → Least P b → a ≡ b
@@ -10,11 +12,6 @@ least_unique P (Some a) (Some b) p q = ap Some (le_antisymm (p.1 b q.0) (q.1 a p
 least_unique P (Some a) None p q = absurd (q a p.0)
 least_unique P None (Some b) p q = absurd (p b q.0)
 least_unique P None None p q = refl
-
--- a property that holds of the same numbers has the same least one
-pub least_like : (P Q : ℕ → Type 0) (o : Option ℕ) → ((k : ℕ) → P k → Q k) → ((k : ℕ) → Q k → P k) → Least P o → Least Q o
-least_like P Q (Some a) there back p = (there a p.0, λ k q. p.1 k (back k q))
-least_like P Q None there back p = λ k q. p k (back k q)
 
 -- the least number, moved by a constant
 abbrev pub Moved : (ℕ → Type 0) → ℕ → ℕ → Type 0

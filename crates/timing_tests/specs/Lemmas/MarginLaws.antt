@@ -7,8 +7,8 @@ use Rattle.timing.specs.declared.items.Item.{Item}
 use Rattle.timing.specs.Laws.{AtMost, ImproperIsNo, Leaving, Local, StepDown, Timely}
 use Rattle.timing.specs.Places.{chosen, holds, proper, with_place, without_place}
 use Rattle.timing.specs.Rows.{of_item}
-use Rattle.timing.proofs.Choosing.{chosen-set, item_there, nth-set}
-use Rattle.timing.proofs.Properness.{proper-down, proper-from, proper-left, proper-says}
+use Rattle.timing.specs.Lemmas.Choosing.{chosen-set, item_there, nth-set}
+use Rattle.timing.specs.Lemmas.Properness.{proper-down, proper-from, proper-left, proper-says}
 use Rattle.timing_tests.specs.Margin.{margin, narrowed, narrowed_table, of_table}
 
 -- the table that a margin asks about, for a proper question about the item x

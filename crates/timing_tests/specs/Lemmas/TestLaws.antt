@@ -5,7 +5,7 @@ use Rattle.std.proofs.lemmas.List.Sums.{sum_by-append, sum_by-cons}
 use Rattle.std.proofs.lemmas.Bool.{cases_Bool, cond-true, cond-false, le-leb, leb-true}
 use Rattle.std.specs.Option.{option_map}
 use Rattle.timing.specs.declared.items.Item.{Item}
-use Rattle.timing.specs.Rows.{RowLeaving, RowStepDown}
+use Rattle.timing.specs.RowLaws.{RowLeaving, RowStepDown}
 use Rattle.timing_tests.specs.Demand.{first_from, interference, longest, releases}
 use Rattle.timing_tests.specs.Tests.{board_demand, board_passes, bus_demand, bus_passes}
 
