@@ -25,6 +25,7 @@ impl RowTest for BoardTest {
     ghost leaving = { board_leaves };
 
     // The items below don't matter: the board is taken from them.
+    #[tactic(auto, using(crate::specs::Lemmas::Times::board_time_is))]
     fn time_of(&self, item: Item, above: Row<'_>, _below: Row<'_>) -> Option<u32> {
         settled::<false>(above, item, item.length, item.window)
     }

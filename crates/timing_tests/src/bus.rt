@@ -26,6 +26,7 @@ impl RowTest for BusTest {
 
     // The item waits for a message below it that has begun, and for those above it; then it takes
     // its length.
+    #[tactic(auto, using(crate::specs::Lemmas::Times::bus_time_some, crate::specs::Lemmas::Times::bus_time_none))]
     fn time_of(&self, item: Item, above: Row<'_>, below: Row<'_>) -> Option<u32> {
         let blocking = blocking_of(item, below);
         let wait = settled::<true>(above, item, blocking, item.window - item.length)?;

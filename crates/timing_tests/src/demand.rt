@@ -144,8 +144,9 @@ fn longest_of(row: Row<'_>) -> u32
 {
     let mut most = 0u32;
     for (place, item) in row.table.iter().enumerate() {
+        let length = item.length;
         if row.set.has(place) {
-            most = most.max(item.length);
+            most = most.max(length);
         }
     }
     most

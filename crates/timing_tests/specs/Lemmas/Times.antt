@@ -1,5 +1,5 @@
 -- The board test and the bus test: the time that is computed is the least one. Assumes nothing.
-use Rattle.std.proofs.Common.{◌≡◌, ℕ, ◌+◌, ◌-◌, ◌<◌, true, false, leb, List, ◌∷◌, Some, None, Option, ap, subst, arith}
+use Rattle.std.proofs.Common.{◌≡◌, ℕ, ◌+◌, ◌-◌, ◌<◌, true, false, leb, List, ◌∷◌, Some, None, Option, ap, subst, ◌∙◌, arith}
 use Rattle.std.proofs.lemmas.Bool.{le-leb, leb-true}
 use Rattle.std.specs.Option.{option_map}
 use Rattle.timing.specs.declared.items.Item.{Item}
@@ -19,8 +19,8 @@ board_there x above t h = (omega arith, omega arith, le-leb (board_demand x abov
 board_back : (x : Item) (above : List Item) (t : ℕ) → Among (λ k. leb (board_demand x above k) k) 1 x.window t → Covered false above x.length x.window t
 board_back x above t h = (omega arith, leb-true (board_demand x above t) t h.2)
 
-pub board_time-is : (x : Item) (above below : List Item) (o : Option ℕ) → Least (Covered false above x.length x.window) o → o ≡ board_time x above below
-board_time-is x above below o h =
+pub board_time_is : (x : Item) (above below : List Item) (o : Option ℕ) → Least (Covered false above x.length x.window) o → o ≡ board_time x above below
+board_time_is x above below o h =
     least_is_first (Covered false above x.length x.window) (λ k. leb (board_demand x above k) k) 1 x.window o (board_there x above) (board_back x above) h
 
 pub board_time-least : (x : Item) (above below : List Item) → Least (BoardEnds x above) (board_time x above below)
@@ -37,10 +37,16 @@ bus_there x above below w h = (omega arith, omega arith, le-leb (bus_demand x ab
 bus_back : (x : Item) (above below : List Item) (w : ℕ) → Among (λ k. leb (bus_demand x above below k) k) 0 (x.window + 1 - x.length) w → Covered true above (longest (x ∷ below)) (x.window - x.length) w
 bus_back x above below w h = (omega arith, leb-true (bus_demand x above below w) w h.2)
 
-pub bus_time-is : (x : Item) (above below : List Item) (blocking : ℕ) (o : Option ℕ) → blocking ≡ longest (x ∷ below) → Least (Covered true above blocking (x.window - x.length)) o → option_map (λ w. w + x.length) o ≡ bus_time x above below
-bus_time-is x above below blocking o is h =
+bus_time_is : (x : Item) (above below : List Item) (o : Option ℕ) → Least (Covered true above (longest (x ∷ below)) (x.window - x.length)) o → option_map (λ w. w + x.length) o ≡ bus_time x above below
+bus_time_is x above below o h =
     ap (option_map (λ w. w + x.length))
-    (least_is_first (Covered true above (longest (x ∷ below)) (x.window - x.length)) (λ k. leb (bus_demand x above below k) k) 0 (x.window + 1 - x.length) o (bus_there x above below) (bus_back x above below) (subst (λ n. Least (Covered true above n (x.window - x.length)) o) is h))
+    (least_is_first (Covered true above (longest (x ∷ below)) (x.window - x.length)) (λ k. leb (bus_demand x above below k) k) 0 (x.window + 1 - x.length) o (bus_there x above below) (bus_back x above below) h)
+
+pub bus_time_some : (x : Item) (above below : List Item) (w blocking : ℕ) → blocking ≡ longest (x ∷ below) → Least (Covered true above blocking (x.window - x.length)) (Some w) → Some (w + x.length) ≡ bus_time x above below
+bus_time_some x above below w blocking is h = bus_time_is x above below (Some w) (subst (λ n. Least (Covered true above n (x.window - x.length)) (Some w)) is h)
+
+pub bus_time_none : (x : Item) (above below : List Item) (o : Option ℕ) (blocking : ℕ) → o ≡ None → blocking ≡ longest (x ∷ below) → Least (Covered true above blocking (x.window - x.length)) None → o ≡ bus_time x above below
+bus_time_none x above below o blocking none is h = none ∙ bus_time_is x above below None (subst (λ n. Least (Covered true above n (x.window - x.length)) None) is h)
 
 pub bus_time-least : (x : Item) (above below : List Item) → Least (BusEnds x above below) (bus_time x above below)
 bus_time-least x above below =
