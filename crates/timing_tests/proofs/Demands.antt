@@ -1,6 +1,6 @@
 -- What the work of the items above comes to. Assumes nothing.
-use Rattle.std.proofs.Common.{◌≡◌, ℕ, max, ◌++◌, ◌+◌, ◌*◌, ◌/◌, ◌%◌, ◌<◌, ◌≤◌, Bool, true, false, List, [], ◌∷◌, length, get_or, take, sum_by, ap, ⊎_elim, mul-le-mul_right, mod-eq_of_lt, arith}
-use native.Mathlib.Nat.{div-eq_of_lt}
+use Rattle.std.proofs.Common.{◌≡◌, ℕ, max, ◌++◌, ◌+◌, ◌*◌, ◌/◌, ◌%◌, ◌^◌, ◌<◌, ◌≤◌, Bool, true, false, List, [], ◌∷◌, length, get_or, take, sum_by, ap, ⊎_elim, mul-le-mul_right, mod-eq_of_lt, arith}
+use native.Mathlib.Nat.{div-eq_of_lt, div-le_of_le-mul}
 use Rattle.std.proofs.lemmas.Nat.{div-add-mod', le-div, mul-le}
 use Rattle.std.proofs.lemmas.List.Sums.{sum_by-append, sum_by-cons}
 use Rattle.std.proofs.lemmas.Bool.{cases_eq}
@@ -11,8 +11,8 @@ use Rattle.timing_tests.specs.Demand.{interference, longest, releases}
 use Rattle.timing_tests.specs.Steps.{first, share, shares}
 
 -- inside the first period: one release up to t, and one before t if t is not 0
-pub releases-first : (inclusive : Bool) (t period : ℕ) → t < period → releases inclusive t period ≡ first inclusive t
-releases-first inclusive t period less = by_cases inclusive (div-eq_of_lt less) (mod-eq_of_lt less)
+pub releases_first : (inclusive : Bool) (t period : ℕ) → t < period → releases inclusive t period ≡ first inclusive t
+releases_first inclusive t period less = by_cases inclusive (div-eq_of_lt less) (mod-eq_of_lt less)
   where
     by_cases : (inclusive : Bool) → t / period ≡ 0 → t % period ≡ t → releases inclusive t period ≡ first inclusive t
     by_cases false none all = omega arith
@@ -23,13 +23,16 @@ releases-few : (inclusive : Bool) (t period : ℕ) → releases inclusive t peri
 releases-few false t period = omega arith
 releases-few true t period = omega arith
 
-pub work-bounded : (inclusive : Bool) (t period length : ℕ) → length ≤ period → releases inclusive t period * length ≤ t + period
-work-bounded inclusive t period length short =
+pub work_bounded : (inclusive : Bool) (t period length : ℕ) → length ≤ period → releases inclusive t period * length ≤ t + period
+work_bounded inclusive t period length short =
     let q = t / period in
     let whole : q * period + t % period ≡ t = div-add-mod' t period in
     let most : releases inclusive t period * length ≤ (q + 1) * period = mul-le _ _ (q + 1) period (releases-few inclusive t period) short in
     let opened : (q + 1) * period ≡ q * period + period = omega arith in
     omega arith
+
+pub share_small : (x : Item) → share x ≤ 2 ^ 32
+share_small x = div-le_of_le-mul x.period (omega arith)
 
 -- What a loop over a row has gathered, with one item more: x stands at place k, and the set holds
 -- that place.
@@ -87,8 +90,8 @@ sum_by-rise f g less (x ∷ xs) =
     let b : sum_by g (x ∷ xs) ≡ g x + sum_by g xs = sum_by-cons g x xs in
     omega arith
 
-pub interference-rises : (inclusive : Bool) (above : List Item) (t t' : ℕ) → t ≤ t' → interference inclusive above t ≤ interference inclusive above t'
-interference-rises inclusive above t t' later =
+pub interference_rises : (inclusive : Bool) (above : List Item) (t t' : ℕ) → t ≤ t' → interference inclusive above t ≤ interference inclusive above t'
+interference_rises inclusive above t t' later =
     sum_by-rise _ _
     (λ (x : Item). mul-le-mul_right x.length (releases-rise inclusive t t' x.period (omega arith) later))
     above

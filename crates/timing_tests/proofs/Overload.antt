@@ -53,8 +53,8 @@ interference-reaches inclusive t (x ∷ xs) =
     let d : t * shares (x ∷ xs) ≡ t * (share x + shares xs) = ap (λ n. t * n) a in
     omega arith
 
-pub overload-never_ends : (inclusive : Bool) (x : Item) (above : List Item) (base t : ℕ) → 2 ^ 32 < share x + shares above → x.length ≤ base → t ≤ x.period → t < base + interference inclusive above t
-overload-never_ends inclusive x above base t over own within =
+pub overload_never_ends : (inclusive : Bool) (x : Item) (above : List Item) (base t : ℕ) → 2 ^ 32 < share x + shares above → x.length ≤ base → t ≤ x.period → t < base + interference inclusive above t
+overload_never_ends inclusive x above base t over own within =
     let a = share x in
     let s = shares above in
     let reach : t * s ≤ interference inclusive above t * 2 ^ 32 = interference-reaches inclusive t above in

@@ -9,7 +9,9 @@ use timing::items::Item;
 use timing::rows::Row;
 
 // The functions below that have a parameter INCLUSIVE serve both tests, which differ in the releases
-// that count up to a tick t: on a board those before it, on the bus those at it too.
+// that count up to a tick t: on a board those before it, on the bus those at it too. A constant, so
+// that each test gets loops of its own with nothing to decide inside; a closure would be passed
+// through as many functions, and each would have to say what it gives.
 
 // How often an item is released inside its first period.
 fn first_releases<const INCLUSIVE: bool>(t: u32) -> u32
@@ -33,6 +35,7 @@ fn all_releases<const INCLUSIVE: bool>(t: u32, period: u32) -> u32
 
 // How often an item of this period is released. Most periods are longer than the times asked
 // about, and then no division is needed.
+#[tactic(auto, using(crate::proofs::Demands::releases_first))]
 fn releases_of<const INCLUSIVE: bool>(t: u32, period: u32) -> u32
     requires small { t ≤ 1000000 }
     requires some { 1 ≤ period }
@@ -46,6 +49,7 @@ fn releases_of<const INCLUSIVE: bool>(t: u32, period: u32) -> u32
 }
 
 // The work that one item brings.
+#[tactic(auto, using(crate::proofs::Demands::work_bounded))]
 fn work_of<const INCLUSIVE: bool>(item: Item, t: u32) -> u32
     requires { t ≤ 1000000 }
     ensures work { result ≡ releases INCLUSIVE t item.period * item.length }
@@ -73,6 +77,7 @@ fn interference_of<const INCLUSIVE: bool>(above: Row<'_>, t: u32) -> u32
 }
 
 // What an item takes of a board or of the bus, in units of 2 ^ 32 to the whole, rounded down.
+#[tactic(auto, using(crate::proofs::Demands::share_small))]
 fn share_of(item: Item) -> u64
     ensures share { result ≡ share item }
     ensures small { result ≤ 2 ^ 32 }
@@ -107,6 +112,7 @@ fn is_overload(item: Item, above: Row<'_>) -> bool
 // before the demand itself does. Where the items together need more than the whole board or bus,
 // there is none up to the item's period, and none is looked for past the first turns; those settle
 // most questions, and cost less than the shares.
+#[tactic(auto, using(crate::proofs::Demands::interference_rises))]
 pub(super) fn settled<const INCLUSIVE: bool>(
     above: Row<'_>,
     item: Item,
@@ -136,7 +142,8 @@ pub(super) fn settled<const INCLUSIVE: bool>(
     None
 }
 
-// The longest length of the items of a row, 0 where it has none.
+// The longest length of the items of a row, 0 where it has none. A length is read before its bit is
+// looked at, as the work above is worked out.
 #[tactic(auto, using(timing::specs::Lemmas::Choosing::chosen_skipped, crate::proofs::Demands::longest_taken, crate::proofs::Demands::longest_small))]
 fn longest_of(row: Row<'_>) -> u32
     ensures longest { result ≡ longest (items_of row.entry) }

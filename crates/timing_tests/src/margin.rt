@@ -16,7 +16,8 @@ pub struct Margin<T> {
     pub ticks: u32,
 }
 
-// The item with its window reduced, where that leaves its length.
+// The item with its window reduced, where that leaves its length. An `if`, since `then_some` would make
+// the item before the test, and the closure of `then` would have to require what the test says.
 fn tightened(item: Item, ticks: u32) -> Option<Item>
     ensures { Tightened item ticks result }
 {
