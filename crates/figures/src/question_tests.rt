@@ -1,8 +1,12 @@
 // Timing tests: the worked figures, the limits of items and each kind of improper question, run.
+ghost use Rattle.timing_tests.specs.Tests.{BoardResponse, BusResponse};
+
 use std::test::Fail;
 use timing::items::Item;
 use timing::places::{PlaceSet, is_proper};
+use timing::questions::Question;
 use timing::refusals::ItemRefusal;
+use timing::row_test::RowTest;
 use timing::timed_test::TimedTest;
 use timing::timing_test::TimingTest;
 use timing_tests::board::BoardTest;
@@ -31,25 +35,54 @@ fn refused(length: u32, period: u32, window: u32) -> Option<(u8, u32, u32, u32)>
     }
 }
 
-// The response of the second of two items with the first above it, by two tests that need not
-// agree: whether it passes, and when.
+// What `least_end` promises of each test.
+fn least_on_a_board(question: Question<'_>) -> Option<u32>
+    ensures { BoardResponse question.entry.table.now question.entry.place question.entry.above.bits question.entry.below.bits result }
+{
+    BoardTest.least_end(question)
+}
+
+fn least_on_the_bus(question: Question<'_>) -> Option<u32>
+    ensures { BusResponse question.entry.table.now question.entry.place question.entry.above.bits question.entry.below.bits result }
+{
+    BusTest.least_end(question)
+}
+
+// A question about the first item of a table.
+fn first_with(table: &[Item], above: PlaceSet, below: PlaceSet) -> Question<'_> {
+    Question {
+        table,
+        place: 0,
+        above,
+        below,
+    }
+}
+
+// A question about the second of two items with the first above it.
+fn second_of(table: &[Item]) -> Question<'_> {
+    Question {
+        table,
+        place: 1,
+        above: PlaceSet::none().with(0),
+        below: PlaceSet::none(),
+    }
+}
+
+// What a test says in both ways, which need not agree: whether the item passes, and when.
+fn told<T: TimedTest>(test: &T, question: Question<'_>) -> (bool, Option<u32>) {
+    (test.passes(question), test.response(question))
+}
+
 fn with_first_above<T: TimedTest>(test: &T, first: Item, second: Item) -> (bool, Option<u32>) {
     let table = [first, second];
-    let above = PlaceSet::none().with(0);
-    let below = PlaceSet::none();
-    (
-        test.passes(&table, 1, above, below),
-        test.response(&table, 1, above, below),
-    )
+    told(test, second_of(&table))
 }
 
 fn with_second_below<T: TimedTest>(test: &T, first: Item, second: Item) -> (bool, Option<u32>) {
     let table = [first, second];
-    let above = PlaceSet::none();
-    let below = PlaceSet::none().with(1);
-    (
-        test.passes(&table, 0, above, below),
-        test.response(&table, 0, above, below),
+    told(
+        test,
+        first_with(&table, PlaceSet::none(), PlaceSet::none().with(1)),
     )
 }
 
@@ -71,6 +104,8 @@ fn on_a_board(rt: HostRuntime) -> Result<(), Fail> {
     assert_eq!(rt; in_time, (true, Some(5)));
     let late = with_first_above(&BoardTest, above, item(3, 20, 4)?);
     assert_eq!(rt; late, (false, None));
+    let table = [above, item(3, 20, 5)?];
+    assert_eq!(rt; least_on_a_board(second_of(&table)), Some(5));
     Ok(())
 }
 
@@ -88,11 +123,10 @@ fn on_the_bus(rt: HostRuntime) -> Result<(), Fail> {
     assert_eq!(rt; blocked, (true, Some(5)));
     let too_long = with_second_below(&BusTest, item(1, 10, 4)?, below);
     assert_eq!(rt; too_long, (false, None));
-    let none = PlaceSet::none();
-    assert_eq!(rt;
-        BusTest.response(&[item(3, 20, 6)?], 0, none, none),
-        Some(6)
-    );
+    let table = [item(3, 20, 6)?];
+    let alone = first_with(&table, PlaceSet::none(), PlaceSet::none());
+    assert_eq!(rt; BusTest.response(alone), Some(6));
+    assert_eq!(rt; least_on_the_bus(alone), Some(6));
     Ok(())
 }
 
@@ -133,6 +167,9 @@ fn improper_questions(rt: HostRuntime) -> Result<(), Fail> {
     assert!(rt; !is_proper(2, 0, none, first));
     assert_eq!(rt; first.with(5).without(0), none.with(5));
     assert_eq!(rt; first.with(32), first);
-    assert!(rt; !BoardTest.passes(&[item(1, 10, 10)?], 0, first, none));
+    let table = [item(1, 10, 10)?];
+    assert!(rt; !BoardTest.passes(first_with(&table, first, none)));
+    assert!(rt; !first_with(&table, first, none).is_proper());
+    assert!(rt; first_with(&table, none, none).is_proper());
     Ok(())
 }
