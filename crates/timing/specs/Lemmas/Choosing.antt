@@ -1,7 +1,6 @@
 -- The items at a set's places. Assumes nothing.
 use Rattle.std.proofs.Common.{◌≡◌, ℕ, zero, suc, ◌+◌, ◌<◌, ◌≤◌, Bool, true, false, cond, List, [], ◌∷◌, ◌++◌, length, get_or, take, set, Some, sym, refl, ap, ◌∙◌, ⊎_elim, arith}
 use Rattle.std.proofs.lemmas.List.{append-nil, length-take-le, take_more}
-use Rattle.std.proofs.lemmas.Option.{slice_get_read}
 use Rattle.std.proofs.lemmas.Bool.{cases_Bool, cond-true, cond-false}
 use Rattle.std.specs.List.{slice_get}
 use Rattle.timing.specs.Places.{chosen, chosen_from, holds}
@@ -96,10 +95,6 @@ chosen_taken m k xs x within is has =
 pub chosen_skipped : {X : Type 0} (m k : ℕ) (xs : List X) (x : X) → k < length xs → x ≡ get_or xs k x → holds m k ≡ false → chosen m (take (k + 1) xs) ≡ chosen m (take k xs)
 chosen_skipped m k xs x within is has =
     chosen-turn m k xs x within is ∙ ap (λ r. chosen m (take k xs) ++ r) (cond-false (holds m k) _ _ has) ∙ append-nil (chosen m (take k xs))
-
--- the item that code reads at a place inside a table
-pub item_read : {X : Type 0} (xs : List X) (i : ℕ) (x : X) → i < length xs → x ≡ get_or xs i x → slice_get xs i ≡ Some (get_or xs i x)
-item_read xs i x inside is = slice_get_read xs _ i x refl inside is ∙ ap Some is
 
 -- the item at a place inside a table, and what stands there after a write
 pub item_there : {X : Type 0} (xs : List X) (i : ℕ) → i < length xs → (x : X) × (slice_get xs i ≡ Some x)

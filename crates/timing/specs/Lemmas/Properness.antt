@@ -1,7 +1,8 @@
 -- The test for a proper question says what is meant by one; and a proper question stays proper
 -- when a place changes sides or leaves. Assumes nothing.
-use Rattle.std.proofs.Common.{◌≡◌, ℕ, ◌^◌, ◌<◌, Bool, true, false, not, ◌&&◌, ◌||◌, eqb, Decides, sym, refl, ap, ◌∙◌, ⊎_elim, arith}
+use Rattle.std.proofs.Common.{◌≡◌, ℕ, ◌^◌, ◌<◌, true, false, not, ◌&&◌, ◌||◌, eqb, Decides, sym, refl, ap, ◌∙◌, ⊎_elim, arith}
 use lib.Bits.{bit_and}
+use Rattle.std.proofs.Math.Bool.{and-false, and-true}
 use Rattle.std.proofs.lemmas.Bool.{and_from, and_parts, both_ways, cases_eq, eq-eqb, eqb-true, le-leb, leb-true, lt-ltb, ltb-true, ne_eqb, not-true, not_from_false}
 use Rattle.timing.specs.Places.{Proper, holds, most_items, proper, with_place, without_place}
 use Rattle.timing.specs.Lemmas.Sets.{apart_from, apart_says, holds-with, holds-without, inside_from, inside_says}
@@ -46,11 +47,7 @@ pub without_none : (set i j : ℕ) → holds set j ≡ false → holds (without_
 without_none set i j e = holds-without set i j ∙ ap (λ t. t && not (eqb i j)) e
 
 pub without_it : (set i : ℕ) → holds (without_place set i) i ≡ false
-without_it set i = holds-without set i i ∙ ap (λ t. holds set i && not t) (eq-eqb i i refl) ∙ and_false (holds set i)
-  where
-    and_false : (t : Bool) → (t && false) ≡ false
-    and_false true = refl
-    and_false false = refl
+without_it set i = holds-without set i i ∙ ap (λ t. holds set i && not t) (eq-eqb i i refl) ∙ and-false (holds set i)
 
 pub with_it : (set i : ℕ) → holds (with_place set i) i ≡ true
 with_it set i = holds-with set i i ∙ ap (λ t. t || holds set i) (eq-eqb i i refl)
@@ -59,11 +56,7 @@ pub with_other : (set i j : ℕ) → (i ≡ j → ⊥) → holds (with_place set
 with_other set i j n = holds-with set i j ∙ ap (λ t. t || holds set j) (ne_eqb i j n)
 
 pub without_other : (set i j : ℕ) → (i ≡ j → ⊥) → holds (without_place set i) j ≡ holds set j
-without_other set i j n = holds-without set i j ∙ ap (λ t. holds set j && not t) (ne_eqb i j n) ∙ and_true (holds set j)
-  where
-    and_true : (t : Bool) → (t && true) ≡ t
-    and_true true = refl
-    and_true false = refl
+without_other set i j n = holds-without set i j ∙ ap (λ t. holds set j && not t) (ne_eqb i j n) ∙ and-true (holds set j)
 
 pub proper-down : (n place above below i : ℕ) → holds above i ≡ true → Proper n place above below → Proper n place (without_place above i) (with_place below i)
 proper-down n place above below i up p = record {

@@ -1,71 +1,12 @@
 -- Which places a set holds. Assumes nothing.
-use Rattle.std.proofs.Common.{◌≡◌, ℕ, zero, suc, ◌+◌, ◌-◌, ◌*◌, ◌/◌, ◌%◌, ◌^◌, ◌<◌, ◌≤◌, min, max, Bool, true, false, not, ◌&&◌, ◌||◌, eqb, sym, refl, ap, ◌∙◌, ⊎_elim, lt_of_lt_of_le, add-one, arith, pow_mono}
-use native.Mathlib.Nat.{div-eq_of_lt}
-use lib.Bits.{bit_and, bit_or, bit_xor, differ, and_step, or_step, xor_step, and_shr, or_shr, xor_shr}
-use Rattle.std.proofs.lemmas.Nat.{leading_top, pow_pos, pow-add, pow_below, shl-shr, mod_below, div_below, le-div}
-use Rattle.std.proofs.lemmas.Bool.{and_parts, both_ways, cases_Bool, cases_eq, cases_lt, cases_order, cond-true, cond-false, eq-eqb, ne_eqb, eqb-true}
+use Rattle.std.proofs.Common.{◌≡◌, ℕ, zero, suc, ◌+◌, ◌*◌, ◌/◌, ◌%◌, ◌^◌, ◌<◌, ◌≤◌, min, max, true, false, not, ◌&&◌, ◌||◌, eqb, sym, refl, ap, ◌∙◌, ⊎_elim, lt_of_lt_of_le, add-one, arith, pow_mono}
+use lib.Bits.{bit_and, bit_or, bit_xor}
+use Rattle.std.proofs.Math.Bool.{and-true}
+use Rattle.std.proofs.lemmas.Nat.Bits.{bit_at-lt, bit_at-pow_other, bit_at-pow_same, bit_at-zero, bit_at_above, bit_at_and, bit_at_or, bit_at_xor}
+use Rattle.std.proofs.lemmas.Nat.{leading_top, pow_pos, pow-add, div_below, le-div}
+use Rattle.std.proofs.lemmas.Bool.{and_parts, both_ways, cases_Bool, cases_eq, cases_lt, cond-true, cond-false, eq-eqb, ne_eqb, eqb-true}
 use Rattle.std.proofs.lemmas.Bool.Decides.{nat_tests}
 use Rattle.timing.specs.Places.{holds, with_place, without_place}
-
-or_bit : (a b i : ℕ) → bit_or a b / 2 ^ i % 2 ≡ max (a / 2 ^ i % 2) (b / 2 ^ i % 2)
-or_bit a b i =
-    let x = a / 2 ^ i in
-    let y = b / 2 ^ i in
-    let e : bit_or a b / 2 ^ i ≡ bit_or x y = or_shr a b i in
-    let s : bit_or x y ≡ bit_or (x / 2) (y / 2) * 2 + max (x % 2) (y % 2) = or_step x y in
-    omega arith
-
-and_bit : (a b i : ℕ) → bit_and a b / 2 ^ i % 2 ≡ min (a / 2 ^ i % 2) (b / 2 ^ i % 2)
-and_bit a b i =
-    let x = a / 2 ^ i in
-    let y = b / 2 ^ i in
-    let e : bit_and a b / 2 ^ i ≡ bit_and x y = and_shr a b i in
-    let s : bit_and x y ≡ bit_and (x / 2) (y / 2) * 2 + min (x % 2) (y % 2) = and_step x y in
-    omega arith
-
-differ_bits : (x y : ℕ) → x < 2 → y < 2 → differ x y ≡ (x + y) % 2
-differ_bits zero zero p q = refl
-differ_bits zero (suc zero) p q = refl
-differ_bits (suc zero) zero p q = refl
-differ_bits (suc zero) (suc zero) p q = refl
-differ_bits zero (suc (suc y)) p q = omega arith
-differ_bits (suc zero) (suc (suc y)) p q = omega arith
-differ_bits (suc (suc x)) y p q = omega arith
-
-xor_bit : (a b i : ℕ) → bit_xor a b / 2 ^ i % 2 ≡ (a / 2 ^ i % 2 + b / 2 ^ i % 2) % 2
-xor_bit a b i =
-    let x = a / 2 ^ i in
-    let y = b / 2 ^ i in
-    let e : bit_xor a b / 2 ^ i ≡ bit_xor x y = xor_shr a b i in
-    let s : bit_xor x y ≡ bit_xor (x / 2) (y / 2) * 2 + differ (x % 2) (y % 2) = xor_step x y in
-    let d : differ (x % 2) (y % 2) ≡ (x % 2 + y % 2) % 2 = differ_bits (x % 2) (y % 2) (mod_below x 2 (omega arith)) (mod_below y 2 (omega arith)) in
-    omega arith
-
-power_bit_same : (i : ℕ) → 2 ^ i / 2 ^ i % 2 ≡ 1
-power_bit_same i =
-    let e : 1 * 2 ^ i / 2 ^ i ≡ 1 = shl-shr 1 i in
-    let f : 1 * 2 ^ i ≡ 2 ^ i = omega arith in
-    ap (λ n. n / 2 ^ i % 2) (sym f) ∙ ap (λ n. n % 2) e
-
-power_bit_other : (i j : ℕ) → (i ≡ j → ⊥) → 2 ^ i / 2 ^ j % 2 ≡ 0
-power_bit_other i j apart =
-    ⊎_elim (λ e. absurd (apart e))
-    (⊎_elim
-    (λ less. ap (λ n. n % 2) (div-eq_of_lt (pow_below i j less)))
-    (λ more.
-    let k = i - (j + 1) in
-    let e : i ≡ (k + 1) + j = omega arith in
-    let p : 2 ^ ((k + 1) + j) ≡ 2 ^ (k + 1) * 2 ^ j = pow-add 2 (k + 1) j in
-    let q : 2 ^ (k + 1) ≡ 2 ^ k * 2 ^ 1 = pow-add 2 k 1 in
-    let d : 2 ^ (k + 1) * 2 ^ j / 2 ^ j ≡ 2 ^ (k + 1) = shl-shr (2 ^ (k + 1)) j in
-    let whole : 2 ^ i / 2 ^ j ≡ 2 ^ k * 2 = ap (λ n. 2 ^ n / 2 ^ j) e ∙ ap (λ n. n / 2 ^ j) p ∙ d ∙ q in
-    let even : 2 ^ k * 2 % 2 ≡ 0 = omega arith in
-    ap (λ n. n % 2) whole ∙ even))
-    (cases_order i j)
-
-and_true : (t : Bool) → (t && true) ≡ t
-and_true true = refl
-and_true false = refl
 
 -- tests of bits
 or_test : (m a b : ℕ) → m ≡ max a b → a < 2 → b < 2 → eqb m 1 ≡ (eqb b 1 || eqb a 1)
@@ -77,22 +18,19 @@ drop_test m a b e p q r = grind (arith, nat_tests)
 and_test : (m a b : ℕ) → m ≡ min a b → a < 2 → b < 2 → eqb m 1 ≡ (eqb a 1 && eqb b 1)
 and_test m a b e p q = grind (arith, nat_tests)
 
-bit_small : (n i : ℕ) → n / 2 ^ i % 2 < 2
-bit_small n i = mod_below (n / 2 ^ i) 2 (omega arith)
-
 -- the set of one place
 pub holds-one : (i j : ℕ) → holds (2 ^ i) j ≡ eqb i j
 unfolding holds
 holds-one i j =
     ⊎_elim
-    (λ e. ap (λ n. eqb (2 ^ i / 2 ^ n % 2) 1) (sym e) ∙ ap (λ n. eqb n 1) (power_bit_same i) ∙ sym (eq-eqb i j e))
-    (λ n. ap (λ n. eqb n 1) (power_bit_other i j n) ∙ sym (ne_eqb i j n))
+    (λ e. ap (λ n. eqb (2 ^ i / 2 ^ n % 2) 1) (sym e) ∙ ap (λ n. eqb n 1) (bit_at-pow_same i) ∙ sym (eq-eqb i j e))
+    (λ n. ap (λ n. eqb n 1) (bit_at-pow_other i j (λ e. n (sym e))) ∙ sym (ne_eqb i j n))
     (cases_eq i j)
 
 pub holds-with : (set i j : ℕ) → holds (with_place set i) j ≡ (eqb i j || holds set j)
 unfolding holds
 holds-with set i j =
-    or_test (bit_or set (2 ^ i) / 2 ^ j % 2) (set / 2 ^ j % 2) (2 ^ i / 2 ^ j % 2) (or_bit set (2 ^ i) j) (bit_small set j) (bit_small (2 ^ i) j)
+    or_test (bit_or set (2 ^ i) / 2 ^ j % 2) (set / 2 ^ j % 2) (2 ^ i / 2 ^ j % 2) (bit_at_or set (2 ^ i) j) (bit_at-lt set j) (bit_at-lt (2 ^ i) j)
     ∙ ap (λ t. t || holds set j) (holds-one i j)
 
 -- a place taken out of a set that holds it
@@ -104,7 +42,7 @@ holds-less set i j e =
     let was : set / 2 ^ i % 2 ≡ 1 = eqb-true (set / 2 ^ i % 2) 1 e in
     let same : b ≡ 1 → a ≡ 1 =
     λ f. ap (λ n. set / 2 ^ n % 2) (sym (eqb-true i j (sym (holds-one i j) ∙ eq-eqb b 1 f))) ∙ was in
-    drop_test (bit_xor set (2 ^ i) / 2 ^ j % 2) a b (xor_bit set (2 ^ i) j) (bit_small set j) (bit_small (2 ^ i) j) same
+    drop_test (bit_xor set (2 ^ i) / 2 ^ j % 2) a b (bit_at_xor set (2 ^ i) j) (bit_at-lt set j) (bit_at-lt (2 ^ i) j) same
     ∙ ap (λ t. holds set j && not t) (holds-one i j)
 
 -- a place taken out of a set that does not hold it
@@ -112,7 +50,7 @@ holds-as_before : (set i j : ℕ) → holds set i ≡ false → holds set j ≡ 
 holds-as_before set i j e =
     ⊎_elim
     (λ f. let out : holds set j ≡ false = ap (holds set) (sym f) ∙ e in rw out refl)
-    (λ n. rw (ne_eqb i j n) (sym (and_true (holds set j))))
+    (λ n. rw (ne_eqb i j n) (sym (and-true (holds set j))))
     (cases_eq i j)
 
 pub holds-without : (set i j : ℕ) → holds (without_place set i) j ≡ (holds set j && not (eqb i j))
@@ -125,11 +63,11 @@ holds-without set i j =
 
 pub holds-both : (a b i : ℕ) → holds (bit_and a b) i ≡ (holds a i && holds b i)
 unfolding holds
-holds-both a b i = and_test (bit_and a b / 2 ^ i % 2) (a / 2 ^ i % 2) (b / 2 ^ i % 2) (and_bit a b i) (bit_small a i) (bit_small b i)
+holds-both a b i = and_test (bit_and a b / 2 ^ i % 2) (a / 2 ^ i % 2) (b / 2 ^ i % 2) (bit_at_and a b i) (bit_at-lt a i) (bit_at-lt b i)
 
 none_held : (i : ℕ) → holds 0 i ≡ false
 unfolding holds
-none_held i = let z : 0 / 2 ^ i ≡ 0 = div-eq_of_lt (pow_pos i) in ap (λ n. eqb (n % 2) 1) z
+none_held i = ap (λ n. eqb n 1) (bit_at-zero i)
 
 below_its_power : (n : ℕ) → n < 2 ^ n
 below_its_power zero = omega arith
@@ -153,10 +91,7 @@ pub inside_says : (n set i : ℕ) → set < 2 ^ n → holds set i ≡ true → i
 unfolding holds
 inside_says n set i small e =
     ⊎_elim (λ h. h)
-    (λ h.
-    let none : set / 2 ^ i ≡ 0 = div-eq_of_lt (lt_of_lt_of_le small (pow_mono {i = n} {j = i} h)) in
-    let z : 0 ≡ 1 = sym (ap (λ n. n % 2) none) ∙ eqb-true (set / 2 ^ i % 2) 1 e in
-    omega arith)
+    (λ h. let z : 0 ≡ 1 = sym (bit_at_above set n i small h) ∙ eqb-true (set / 2 ^ i % 2) 1 e in omega arith)
     (cases_lt i n)
 
 pub inside_from : (n set : ℕ) → ((i : ℕ) → holds set i ≡ true → i < n) → set < 2 ^ n
@@ -188,5 +123,5 @@ apart_from a b apart =
 
 -- a set of 32 bits holds no place from 32 on
 pub none_past : (set i : ℕ) → set < 2 ^ 32 → 32 ≤ i → holds set i ≡ false
-none_past set i small past =
-    ⊎_elim (λ e. let h : i < 32 = inside_says 32 set i small e in let no : ⊥ = omega arith in absurd no) (λ e. e) (cases_Bool (holds set i))
+unfolding holds
+none_past set i small past = ap (λ n. eqb n 1) (bit_at_above set 32 i small past)

@@ -2,12 +2,13 @@
 use Rattle.std.specs.Prelude.{◌≡◌, ℕ, ◌+◌, ◌≤◌, Bool, true, false, cond, leb, List, length, Some, None, Option, nat_le, slice_set, refl}
 use Rattle.std.proofs.Common.{get_or, ⊎_elim, sym, ap, subst, ◌∙◌, zero-add, arith, length-set}
 use Rattle.std.proofs.lemmas.Bool.{both_ways, cases_Bool, cond-true, cond-false}
+use Rattle.std.proofs.lemmas.Option.{slice_get-get_or}
 use Rattle.std.specs.List.{slice_get}
 use Rattle.timing.specs.declared.items.Item.{Item}
 use Rattle.timing.specs.Laws.{AtMost, ImproperIsNo, Leaving, Local, StepDown, Timely}
 use Rattle.timing.specs.Places.{chosen, holds, proper, with_place, without_place}
 use Rattle.timing.specs.Rows.{of_item}
-use Rattle.timing.specs.Lemmas.Choosing.{chosen-set, item_read, item_there, nth-set}
+use Rattle.timing.specs.Lemmas.Choosing.{chosen-set, item_there, nth-set}
 use Rattle.timing.specs.Lemmas.Properness.{proper-down, proper-from, proper-left, proper-says}
 use Rattle.timing_tests.specs.Margin.{margin, narrowed, narrowed_table, of_table}
 
@@ -18,9 +19,9 @@ narrowed-about g table place above below x p e =
     ∙ ap (of_item (λ (y : Item). cond (nat_le (y.length + g) y.window) (Some (slice_set table place (narrowed y g))) None) None) e
 
 -- the same where the item was read at the place asked
-pub narrowed_read : (g : ℕ) (table : List Item) (place above below : ℕ) (x : Item) → proper (length table) place above below ≡ true → x ≡ get_or table place x → narrowed_table g table place above below ≡ cond (nat_le ((get_or table place x).length + g) (get_or table place x).window) (Some (slice_set table place (narrowed (get_or table place x) g))) None
-narrowed_read g table place above below x p is =
-    narrowed-about g table place above below (get_or table place x) p (item_read table place x (proper-says (length table) place above below p).asked_inside is)
+pub narrowed_read : (g : ℕ) (table : List Item) (place above below : ℕ) (x : Item) → proper (length table) place above below ≡ true → narrowed_table g table place above below ≡ cond (nat_le ((get_or table place x).length + g) (get_or table place x).window) (Some (slice_set table place (narrowed (get_or table place x) g))) None
+narrowed_read g table place above below x p =
+    narrowed-about g table place above below (get_or table place x) p (slice_get-get_or table place x (proper-says (length table) place above below p).asked_inside)
 
 of_cond : {X : Type 0} (none : X) (ask : List Item → ℕ → ℕ → ℕ → X) (place above below : ℕ) (t : Bool) (table : List Item) → of_table ask none place above below (cond t (Some table) None) ≡ cond t (ask table place above below) none
 of_cond none ask place above below true table = refl

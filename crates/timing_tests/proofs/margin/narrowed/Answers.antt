@@ -12,7 +12,7 @@ returns-in_err-item c =
     let fine = sym c.is_proper.ensures.test ∙ c.if-not-is_proper.false in
     let read = c.index-question-question in
     subst (Narrowed c.args.ticks q.table.now q.place q.above.bits q.below.bits) (sym c.from_residual.ensures)
-    (narrowed_read c.args.ticks q.table.now q.place q.above.bits q.below.bits read.result fine read.is
+    (narrowed_read c.args.ticks q.table.now q.place q.above.bits q.below.bits read.result fine
     ∙ cond-false _ _ None c.in_err-item.ensures)
 
 pub returns : goal.returns
@@ -26,7 +26,7 @@ returns c =
     let told = c.in_ok-item.ensures in
     let same : c.in_ok-item.item ≡ narrowed x g = same_item c.in_ok-item.item (narrowed x g) told.1 told.2 (let left = leb-true (x.length + g) x.window told.0 in let e = told.3 in omega arith) in (
       (c.is_proper.ensures.means.0 c.if-not-is_proper.false).few,
-      narrowed_read g table q.place q.above.bits q.below.bits read.result fine read.is
+      narrowed_read g table q.place q.above.bits q.below.bits read.result fine
           ∙ cond-true _ (Some (set table q.place (narrowed x g))) None told.0
           ∙ ap (λ z. Some (set table q.place z)) (sym same)
           ∙ ap Some (sym c.replaced.ensures),
