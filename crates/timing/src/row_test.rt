@@ -12,7 +12,7 @@ use super::rows::Row;
 use super::timed_test::TimedTest;
 use super::timing_test::TimingTest;
 
-// Such a test says which times an item can end at, and finds the least of them.
+// Such a test says at which times an item can end, and finds the least of them.
 pub trait RowTest {
     // the item can end so long after its release
     ghost Ends: { Self → ItemOf → List ItemOf → List ItemOf → ℕ → Type 0 };
@@ -20,6 +20,7 @@ pub trait RowTest {
     // the least such time, where there is one
     ghost time: { Self → ItemOf → List ItemOf → List ItemOf → OptionOf ℕ };
 
+    // That time, for an item with a row of items above it and one below.
     fn time_of(&self, item: Item, above: Row<'_>, below: Row<'_>) -> Option<u32>
         ensures { result ≡ time self.now item (items_of above.entry) (items_of below.entry) };
 
@@ -44,7 +45,8 @@ pub trait RowTest {
         self.time_of(item, above, below)
     }
 
-    // Four laws, which each implementation proves.
+    // Four laws, which each implementation proves: the time is the least of those at which the item
+    // can end, it is not past the window, and step-down and leaving in terms of rows.
     ghost least: { (s : Self) (x : ItemOf) (above below : List ItemOf) → Least (Ends s x above below) (time s x above below) };
 
     ghost within: { Within time };
@@ -54,6 +56,7 @@ pub trait RowTest {
     ghost leaving: { RowLeaving (some_time time) };
 }
 
+// An item passes if there is such a time, and it is the response.
 impl<T: RowTest> TimingTest for T {
     ghost meaning = { λ s. by_rows false (some_time T.RowTest.time s) };
 

@@ -33,13 +33,14 @@ fn tightened(item: Item, ticks: u32) -> Option<Item>
 }
 
 // The table with another item at one place; behind it the copy is filled up.
+#[tactic(auto, using(crate::proofs::Copies::front_set))]
 fn replaced(table: &[Item], place: usize, item: Item) -> [Item; 32]
     requires few { length table.now ≤ 32 }
     requires inside { place < length table.now }
     ensures { take (length table.now) result ≡ slice_set table.now place item }
 {
     let mut copy = [item; 32];
-    copy[0..table.len()].copy_from_slice(table);
+    copy[..table.len()].copy_from_slice(table);
     copy[place] = item;
     copy
 }
@@ -70,7 +71,7 @@ impl<T: TimingTest> TimingTest for Margin<T> {
         let Some(tight) = narrowed(question, self.ticks) else {
             return false;
         };
-        let table = &tight[0..question.table.len()];
+        let table = &tight[..question.table.len()];
         self.test.passes(Question { table, ..question })
     }
 }
@@ -80,7 +81,7 @@ impl<T: TimedTest> TimedTest for Margin<T> {
 
     fn response(&self, question: Question<'_>) -> Option<u32> {
         let tight = narrowed(question, self.ticks)?;
-        let table = &tight[0..question.table.len()];
+        let table = &tight[..question.table.len()];
         self.test.response(Question { table, ..question })
     }
 }
