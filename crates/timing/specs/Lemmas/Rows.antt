@@ -1,10 +1,10 @@
 -- The laws of a timing test, derived for a test described by the item asked and the rows of items
 -- above and below it. Assumes nothing.
-use Rattle.std.proofs.Common.{◌≡◌, ℕ, ◌<◌, Bool, true, false, cond, List, ◌∷◌, ◌++◌, length, Some, None, Option, sym, refl, ap, ◌∙◌, zero-add}
+use Rattle.std.proofs.Common.{◌≡◌, ℕ, ◌<◌, Bool, true, false, cond, List, ◌∷◌, ◌++◌, length, is_some, Some, None, Option, sym, refl, ap, ◌∙◌, zero-add}
 use Rattle.std.proofs.lemmas.Bool.{both_ways, cond-true, cond-false}
 use Rattle.std.specs.List.{slice_get}
 use Rattle.timing.specs.declared.items.Item.{Item}
-use Rattle.timing.specs.Laws.{ImproperIsNo, Leaving, Local, StepDown}
+use Rattle.timing.specs.Laws.{AtMost, ImproperIsNo, Leaving, Local, StepDown, Timely}
 use Rattle.timing.specs.Places.{chosen, proper, with_place, without_place}
 use Rattle.timing.specs.RowLaws.{RowLeaving, RowStepDown}
 use Rattle.timing.specs.Rows.{by_rows, of_item}
@@ -24,6 +24,17 @@ answered none answer table place above below x up down p e a b =
     ∙ ap (of_item (λ y. answer y (chosen above table) (chosen below table)) none) e
     ∙ ap (λ u. answer x u (chosen below table)) a
     ∙ ap (answer x up) b
+
+-- A response by rows is there exactly where the item passes, and at most its window, if it is so
+-- for every item and every two rows.
+pub rows_timely : (time : Item → List Item → List Item → Option ℕ) → ((x : Item) (above below : List Item) → AtMost (time x above below) (Some x.window)) → (table : List Item) (place above below : ℕ) → Timely (by_rows false (λ x up down. is_some (time x up down)) table place above below) table place (by_rows None time table place above below)
+rows_timely time bounded table place above below =
+    by_cases (proper (length table) place above below) (slice_get table place) (λ x. time x (chosen above table) (chosen below table)) (λ x. bounded x (chosen above table) (chosen below table))
+  where
+    by_cases : (p : Bool) (o : Option Item) (f : Item → Option ℕ) → ((x : Item) → AtMost (f x) (Some x.window)) → (is_some (cond p (of_item f None o) None) ≡ cond p (of_item (λ x. is_some (f x)) false o) false) × AtMost (cond p (of_item f None o) None) (of_item (λ x. Some x.window) None o)
+    by_cases true (Some x) f h = (refl, h x)
+    by_cases true None f h = (refl, tt)
+    by_cases false o f h = (refl, tt)
 
 module _ {S : Type 0} (passes : S → Item → List Item → List Item → Bool) where
   pub rows_improper : ImproperIsNo (λ (s : S). by_rows false (passes s))

@@ -1,11 +1,11 @@
 -- A margin over a test that keeps the laws keeps them too. Assumes nothing.
-use Rattle.std.specs.Prelude.{◌≡◌, ℕ, ◌+◌, Bool, true, false, cond, leb, List, length, Some, None, nat_le, slice_set, refl}
-use Rattle.std.proofs.Common.{get_or, ⊎_elim, sym, ap, ◌∙◌, zero-add, length-set}
+use Rattle.std.specs.Prelude.{◌≡◌, ℕ, ◌+◌, ◌≤◌, Bool, true, false, cond, leb, List, length, Some, None, Option, nat_le, slice_set, refl}
+use Rattle.std.proofs.Common.{get_or, ⊎_elim, sym, ap, subst, ◌∙◌, zero-add, arith, length-set}
 use Rattle.std.proofs.lemmas.Bool.{both_ways, cases_Bool, cond-true, cond-false}
 use Rattle.std.proofs.lemmas.Option.{slice_get-get_or}
 use Rattle.std.specs.List.{slice_get}
 use Rattle.timing.specs.declared.items.Item.{Item}
-use Rattle.timing.specs.Laws.{ImproperIsNo, Leaving, Local, StepDown}
+use Rattle.timing.specs.Laws.{AtMost, ImproperIsNo, Leaving, Local, StepDown, Timely}
 use Rattle.timing.specs.Places.{chosen, holds, proper, with_place, without_place}
 use Rattle.timing.specs.Rows.{of_item}
 use Rattle.timing.specs.Lemmas.Choosing.{chosen-set, item_there, nth-set}
@@ -13,7 +13,7 @@ use Rattle.timing.specs.Lemmas.Properness.{proper-down, proper-from, proper-left
 use Rattle.timing_tests.specs.Margin.{margin, narrowed, narrowed_table, of_table}
 
 -- the table that a margin asks about, for a proper question about the item x
-narrowed-about : (g : ℕ) (table : List Item) (place above below : ℕ) (x : Item) → proper (length table) place above below ≡ true → slice_get table place ≡ Some x → narrowed_table g table place above below ≡ cond (nat_le (x.length + g) x.window) (Some (slice_set table place (narrowed x g))) None
+pub narrowed-about : (g : ℕ) (table : List Item) (place above below : ℕ) (x : Item) → proper (length table) place above below ≡ true → slice_get table place ≡ Some x → narrowed_table g table place above below ≡ cond (nat_le (x.length + g) x.window) (Some (slice_set table place (narrowed x g))) None
 narrowed-about g table place above below x p e =
     cond-true (proper (length table) place above below) _ None p
     ∙ ap (of_item (λ (y : Item). cond (nat_le (y.length + g) y.window) (Some (slice_set table place (narrowed y g))) None) None) e
@@ -97,3 +97,36 @@ module _ {R S : Type 0} (meaning : S → List Item → ℕ → ℕ → ℕ → B
     where
       untouched : (m : ℕ) (xs : List Item) (i : ℕ) (z : Item) → holds m i ≡ false → chosen m (slice_set xs i z) ≡ chosen m xs
       untouched m xs i z out = chosen-set m 0 i xs z (ap (holds m) (zero-add i) ∙ out)
+
+-- the item asked, in the table and in the one that a margin asks about
+tight_item : (g : ℕ) (table tight : List Item) (place above below : ℕ) → narrowed_table g table place above below ≡ Some tight → (x : Item) × (slice_get table place ≡ Some x) × (slice_get tight place ≡ Some (narrowed x g))
+tight_item g table tight place above below is =
+    ⊎_elim
+    (λ p.
+    let inside = (proper-says (length table) place above below p).asked_inside in
+    let it = item_there table place inside in
+    let x = it.0 in
+    let said = sym (narrowed-about g table place above below x p it.1) ∙ is in
+    ⊎_elim
+    (λ l.
+    let same : slice_set table place (narrowed x g) ≡ tight = cc (sym (cond-true _ (Some (slice_set table place (narrowed x g))) None l) ∙ said) in
+    (x, it.1, ap (λ t. slice_get t place) (sym same) ∙ nth-set table place (narrowed x g) inside))
+    (λ l. let none = sym (cond-false _ (Some (slice_set table place (narrowed x g))) None l) ∙ said in let z : ◌≡◌ {A = ℕ} 0 1 = cc none in let no : ⊥ = omega arith in absurd no)
+    (cases_Bool (nat_le (x.length + g) x.window)))
+    (λ e. let none = sym (cond-false (proper (length table) place above below) _ None e) ∙ is in let z : ◌≡◌ {A = ℕ} 0 1 = cc none in let no : ⊥ = omega arith in absurd no)
+    (cases_Bool (proper (length table) place above below))
+
+at_most_more : (r : Option ℕ) (v w : ℕ) → v ≤ w → AtMost r (Some v) → AtMost r (Some w)
+at_most_more (Some t) v w h less = omega arith
+at_most_more None v w h less = tt
+
+-- what a timed test below answers is timely for the margin too
+pub margin-timely : (ask : List Item → ℕ → ℕ → ℕ → Bool) (g : ℕ) (table tight : List Item) (place above below : ℕ) (r : Option ℕ) → narrowed_table g table place above below ≡ Some tight → Timely (ask tight place above below) tight place r → Timely (margin false ask g table place above below) table place r
+margin-timely ask g table tight place above below r is timely =
+    let it = tight_item g table tight place above below is in
+    let x = it.0 in
+    let window = of_item (λ (y : Item). Some y.window) None in (
+      timely.0 ∙ ap (of_table ask false place above below) (sym is),
+      subst (AtMost r) (sym (ap window it.1))
+          (at_most_more r (narrowed x g).window x.window (let h = x.fits in omega arith) (subst (AtMost r) (ap window it.2) timely.1)),
+    )
