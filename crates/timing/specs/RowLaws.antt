@@ -1,4 +1,5 @@
--- What a test described by the item asked and by the rows of items above and below it owes.
+-- What a test described by the item asked and by the rows of items above and below it owes, and
+-- what it is answered about a table.
 --   Least P o        o is the least number with the property P, or none has it
 --   LeastEnd         what a question about a table is answered
 --   some_time        whether there is a time
