@@ -5,6 +5,7 @@ use super::reading::Task;
 use std::fmt;
 use timing::items::Item;
 use timing::places::PlaceSet;
+use timing::questions::Question;
 use timing::timed_test::TimedTest;
 use timing_tests::board::BoardTest;
 use timing_tests::bus::BusTest;
@@ -76,15 +77,18 @@ impl Tallies {
     // Asks both tests about a place, with the other places divided by the bits of a number.
     fn ask(&mut self, table: &[Item], place: usize, drawn: u32) {
         let others = all_places(table.len()).without(place);
-        let above = PlaceSet {
-            bits: drawn & others.bits,
+        let question = Question {
+            table,
+            place,
+            above: PlaceSet {
+                bits: drawn & others.bits,
+            },
+            below: PlaceSet {
+                bits: !drawn & others.bits,
+            },
         };
-        let below = PlaceSet {
-            bits: !drawn & others.bits,
-        };
-        self.board
-            .add(BoardTest.response(table, place, above, below));
-        self.bus.add(BusTest.response(table, place, above, below));
+        self.board.add(BoardTest.response(question));
+        self.bus.add(BusTest.response(question));
     }
 }
 

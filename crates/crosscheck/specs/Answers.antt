@@ -12,28 +12,28 @@ use Rattle.crosscheck.specs.declared.questions.Question.{Question}
 use Rattle.crosscheck.specs.declared.questions.Test.{Test}
 use Rattle.crosscheck.specs.declared.questions.Test.TheVariants.{Board, Bus}
 
--- what a test says by its meaning and its times
-abbrev pub reply : (meaning : List Item → ℕ → ℕ → ℕ → Bool) (time : List Item → ℕ → ℕ → ℕ → Option ℕ) → Question → List Item → Reply
-reply meaning time q table =
+-- what a test says of a question by its meaning and its times
+abbrev pub reply : (meaning : List Item → ℕ → ℕ → ℕ → Bool) (time : List Item → ℕ → ℕ → ℕ → Option ℕ) → List Item → (place above below : ℕ) → Reply
+reply meaning time table place above below =
     record {
-      passes = meaning table q.place q.above.bits q.below.bits;
-      response = time table q.place q.above.bits q.below.bits;
+      passes = meaning table place above below;
+      response = time table place above below;
     }
 
--- the same, and what it says with the question's margin
-abbrev pub replies : (meaning : List Item → ℕ → ℕ → ℕ → Bool) (time : List Item → ℕ → ℕ → ℕ → Option ℕ) → Question → List Item → Replies
-replies meaning time q table =
+-- the same, and what it says with a margin
+abbrev pub replies : (meaning : List Item → ℕ → ℕ → ℕ → Bool) (time : List Item → ℕ → ℕ → ℕ → Option ℕ) → (ticks : ℕ) → List Item → (place above below : ℕ) → Replies
+replies meaning time ticks table place above below =
     record {
-      plain = reply meaning time q table;
-      tight = reply (margin false meaning q.margin) (margin None time q.margin) q table;
+      plain = reply meaning time table place above below;
+      tight = reply (margin false meaning ticks) (margin None time ticks) table place above below;
     }
 
-abbrev pub test_replies : Test → Question → List Item → Replies
+abbrev pub test_replies : Test → (ticks : ℕ) → List Item → (place above below : ℕ) → Replies
 test_replies Board = replies (by_rows false board_passes) (by_rows None board_time)
 test_replies Bus = replies (by_rows false bus_passes) (by_rows None bus_time)
 
 abbrev pub table_answer : Question → Result (Vec Item Global) ItemRefusal → Result Replies ItemRefusal
-table_answer q (Ok items) = Ok (test_replies q.test q (vec_items items))
+table_answer q (Ok items) = Ok (test_replies q.test q.margin (vec_items items) q.place q.above.bits q.below.bits)
 table_answer q (Err why) = Err why
 
 abbrev pub answer : Question → Result Replies ItemRefusal

@@ -4,7 +4,7 @@ ghost use Rattle.crosscheck.specs.Answers.{answer as answer_to, replies, reply};
 
 use super::questions::{Question, Test};
 use std::fmt;
-use timing::items::Item;
+use timing::questions::Question as Asked;
 use timing::refusals::ItemRefusal;
 use timing::timed_test::TimedTest;
 use timing_tests::board::BoardTest;
@@ -44,26 +44,22 @@ impl fmt::Display for Replies {
 }
 
 // Asks a test in both ways.
-fn reply_of<T: TimedTest>(test: &T, question: &Question, table: &[Item]) -> Reply
-    ensures { result ≡ reply (T.TimingTest.meaning test.now) (T.TimedTest.time test.now) question.now table.now }
+fn reply_of<T: TimedTest>(test: &T, asked: Asked<'_>) -> Reply
+    ensures { result ≡ reply (T.TimingTest.meaning test.now) (T.TimedTest.time test.now) asked.entry.table.now asked.entry.place asked.entry.above.bits asked.entry.below.bits }
 {
     Reply {
-        passes: test.passes(table, question.place, question.above, question.below),
-        response: test.response(table, question.place, question.above, question.below),
+        passes: test.passes(asked),
+        response: test.response(asked),
     }
 }
 
 // Asks a test alone and with the margin.
-fn replies_of<T: TimedTest + Copy>(test: T, question: &Question, table: &[Item]) -> Replies
-    ensures { result ≡ replies (T.TimingTest.meaning test) (T.TimedTest.time test) question.now table.now }
+fn replies_of<T: TimedTest + Copy>(test: T, ticks: u32, asked: Asked<'_>) -> Replies
+    ensures { result ≡ replies (T.TimingTest.meaning test) (T.TimedTest.time test) ticks asked.entry.table.now asked.entry.place asked.entry.above.bits asked.entry.below.bits }
 {
-    let margin = Margin {
-        test,
-        ticks: question.margin,
-    };
     Replies {
-        plain: reply_of(&test, question, table),
-        tight: reply_of(&margin, question, table),
+        plain: reply_of(&test, asked),
+        tight: reply_of(&Margin { test, ticks }, asked),
     }
 }
 
@@ -73,9 +69,15 @@ impl Question {
         ensures { result ≡ answer_to self.now }
     {
         let table = self.table.as_ref().map_err(|refusal| *refusal)?;
+        let asked = Asked {
+            table,
+            place: self.place,
+            above: self.above,
+            below: self.below,
+        };
         Ok(match self.test {
-            Test::Board => replies_of(BoardTest, self, table),
-            Test::Bus => replies_of(BusTest, self, table),
+            Test::Board => replies_of(BoardTest, self.margin, asked),
+            Test::Bus => replies_of(BusTest, self.margin, asked),
         })
     }
 }

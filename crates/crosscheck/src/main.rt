@@ -6,6 +6,7 @@ mod answers;
 mod questions;
 
 use answers::Replies;
+use chain::refusals::Refusal;
 use questions::Question;
 use std::io;
 use timing::refusals::ItemRefusal;

@@ -1,6 +1,7 @@
 // Timing tests: the worked figures, the limits of items and each kind of improper question, run.
 ghost use Rattle.timing_tests.specs.Tests.{BoardResponse, BusResponse};
 
+use chain::refusals::Refusal;
 use std::test::Fail;
 use timing::items::Item;
 use timing::places::{PlaceSet, is_proper};
@@ -14,25 +15,17 @@ use timing_tests::bus::BusTest;
 use timing_tests::margin::Margin;
 
 fn item(length: u32, period: u32, window: u32) -> Result<Item, Fail> {
-    match Item::new(length, period, window) {
-        Ok(item) => Ok(item),
-        Err(_) => Err(Fail::new("an item was refused")),
-    }
+    Ok(Item::new(length, period, window)?)
 }
 
 fn refused(length: u32, period: u32, window: u32) -> Option<(u8, u32, u32, u32)> {
-    match Item::new(length, period, window) {
-        Ok(_) => None,
-        Err(why) => {
-            let number = why.number();
-            let ItemRefusal::OutsideLimits {
-                length,
-                period,
-                window,
-            } = why;
-            Some((number, length, period, window))
-        }
-    }
+    let why = Item::new(length, period, window).err()?;
+    let ItemRefusal::OutsideLimits {
+        length,
+        period,
+        window,
+    } = why;
+    Some((why.number(), length, period, window))
 }
 
 // What `least_end` promises of each test.

@@ -1,6 +1,7 @@
 // Why no item is made.
-ghost use Rattle.std.specs.Prelude.{◌≡◌};
-ghost use Rattle.timing.specs.Items.{described};
+ghost use Rattle.timing.specs.Items.{described as item_described};
+
+use chain::refusals::Refusal;
 
 #[derive(Clone, Copy, Debug, PartialEq, Eq)]
 pub enum ItemRefusal {
@@ -11,11 +12,10 @@ pub enum ItemRefusal {
     },
 }
 
-impl ItemRefusal {
-    // The refusal's number in the table of refusals.
-    pub fn number(&self) -> u8
-        ensures { result ≡ (described self.now).number }
-    {
+impl Refusal for ItemRefusal {
+    ghost described = { item_described };
+
+    fn number(&self) -> u8 {
         match self {
             ItemRefusal::OutsideLimits { .. } => 20,
         }
