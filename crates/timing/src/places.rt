@@ -90,7 +90,7 @@ fn meets_conditions(n: usize, place: usize, above: PlaceSet, below: PlaceSet) ->
 }
 
 // Whether a question about a table of `n` items is proper.
-#[tactic(auto, unfolding(crate::specs::Places::proper))]
+#[tactic(auto, using(crate::specs::Lemmas::Properness::proper_says, crate::specs::Lemmas::Properness::proper_from), unfolding(crate::specs::Places::proper))]
 pub fn is_proper(n: usize, place: usize, above: PlaceSet, below: PlaceSet) -> bool
     ensures test { result ≡ proper n place above.bits below.bits }
     ensures means { Decides result (Proper n place above.bits below.bits) }

@@ -1,15 +1,15 @@
 -- The test for a proper question says what is meant by one; and a proper question stays proper
 -- when a place changes sides or leaves. Assumes nothing.
-use Rattle.std.proofs.Common.{◌≡◌, ℕ, ◌^◌, ◌<◌, true, false, not, ◌&&◌, ◌||◌, eqb, Decides, sym, refl, ap, ◌∙◌, ⊎_elim, arith}
+use Rattle.std.proofs.Common.{◌≡◌, ℕ, ◌^◌, ◌<◌, true, false, not, ◌&&◌, ◌||◌, eqb, sym, refl, ap, ◌∙◌, ⊎_elim, arith}
 use lib.Bits.{bit_and}
 use Rattle.std.proofs.Math.Bool.{and-false, and-true}
 use Rattle.std.proofs.lemmas.Bool.{and_from, and_parts, both_ways, cases_eq, eq-eqb, eqb-true, le-leb, leb-true, lt-ltb, ltb-true, ne_eqb, not-true, not_from_false}
 use Rattle.timing.specs.Places.{Proper, holds, most_items, proper, with_place, without_place}
 use Rattle.timing.specs.Lemmas.Sets.{apart_from, apart_says, holds-with, holds-without, inside_from, inside_says}
 
-pub proper-says : (n place above below : ℕ) → proper n place above below ≡ true → Proper n place above below
+pub proper_says : (n place above below : ℕ) → proper n place above below ≡ true → Proper n place above below
 unfolding proper
-proper-says n place above below e =
+proper_says n place above below e =
     let p = and_parts _ _ e in
     let q = and_parts _ _ p.1 in
     let r = and_parts _ _ q.1 in
@@ -26,18 +26,15 @@ proper-says n place above below e =
       not_below = not-true (holds below place) u.1;
     }
 
-pub proper-from : (n place above below : ℕ) → Proper n place above below → proper n place above below ≡ true
+pub proper_from : (n place above below : ℕ) → Proper n place above below → proper n place above below ≡ true
 unfolding proper
-proper-from n place above below p =
+proper_from n place above below p =
     and_from _ _ (le-leb n most_items p.few)
     (and_from _ _ (lt-ltb place n p.asked_inside)
     (and_from _ _ (lt-ltb above (2 ^ n) (inside_from n above p.above_inside))
     (and_from _ _ (lt-ltb below (2 ^ n) (inside_from n below p.below_inside))
     (and_from _ _ (eq-eqb (bit_and above below) 0 (apart_from above below p.apart))
     (and_from _ _ (not_from_false _ p.not_above) (not_from_false _ p.not_below))))))
-
-pub proper-decides : (n place above below : ℕ) → Decides (proper n place above below) (Proper n place above below)
-proper-decides n place above below = (proper-says n place above below, proper-from n place above below)
 
 -- a set less a place holds nothing new, and not that place
 pub without_less : (set i j : ℕ) → holds (without_place set i) j ≡ true → holds set j ≡ true

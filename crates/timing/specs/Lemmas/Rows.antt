@@ -9,7 +9,7 @@ use Rattle.timing.specs.Places.{chosen, proper, with_place, without_place}
 use Rattle.timing.specs.RowLaws.{RowLeaving, RowStepDown}
 use Rattle.timing.specs.Rows.{by_rows, of_item}
 use Rattle.timing.specs.Lemmas.Choosing.{gained}
-use Rattle.timing.specs.Lemmas.Properness.{proper-down, proper-from, proper-left, proper-says, with_it, with_other, without_it, without_other}
+use Rattle.timing.specs.Lemmas.Properness.{proper-down, proper_from, proper-left, proper_says, with_it, with_other, without_it, without_other}
 
 -- a yes comes from a proper question and from an item
 asked : (p : Bool) (f : Item → Bool) (o : Option Item) → cond p (of_item f false o) false ≡ true → (p ≡ true) × ((x : Item) × (o ≡ Some x) × (f x ≡ true))
@@ -53,7 +53,7 @@ module _ {S : Type 0} (passes : S → Item → List Item → List Item → Bool)
       let n = length table in
       let was = asked (proper n place above below) (λ y. passes s y (chosen above table) (chosen below table)) (slice_get table place) pass in
       let x = was.1.0 in
-      let p = proper-says n place above below was.0 in
+      let p = proper_says n place above below was.0 in
       let inside : i < n = p.above_inside i up in
       let a = gained (without_place above i) above 0 i i table inside (sym (zero-add i)) (without_it above i) up (without_other above i) in
       let b = gained below (with_place below i) 0 i i table inside (sym (zero-add i)) (p.apart i up) (with_it below i) (λ j m. sym (with_other below i j m)) in
@@ -61,7 +61,7 @@ module _ {S : Type 0} (passes : S → Item → List Item → List Item → Bool)
       let before : passes s x (a.front ++ (a.it ∷ a.back)) (b.front ++ b.back) ≡ true =
       sym (ap (λ u. passes s x u (b.front ++ b.back)) a.with) ∙ sym (ap (passes s x (chosen above table)) b.without) ∙ was.1.2 in
       answered false (passes s) table place (without_place above i) (with_place below i) x (a.front ++ a.back) (b.front ++ (a.it ∷ b.back))
-      (proper-from n place (without_place above i) (with_place below i) (proper-down n place above below i up p))
+      (proper_from n place (without_place above i) (with_place below i) (proper-down n place above below i up p))
       was.1.1
       a.without
       (b.with ∙ ap (λ y. b.front ++ (y ∷ b.back)) (sym same))
@@ -72,12 +72,12 @@ module _ {S : Type 0} (passes : S → Item → List Item → List Item → Bool)
       let n = length table in
       let was = asked (proper n place above below) (λ y. passes s y (chosen above table) (chosen below table)) (slice_get table place) pass in
       let x = was.1.0 in
-      let p = proper-says n place above below was.0 in
+      let p = proper_says n place above below was.0 in
       let b = gained (without_place below i) below 0 i i table (p.below_inside i down) (sym (zero-add i)) (without_it below i) down (without_other below i) in
       let before : passes s x (chosen above table) (b.front ++ (b.it ∷ b.back)) ≡ true =
       sym (ap (passes s x (chosen above table)) b.with) ∙ was.1.2 in
       answered false (passes s) table place above (without_place below i) x (chosen above table) (b.front ++ b.back)
-      (proper-from n place above (without_place below i) (proper-left n place above below i p))
+      (proper_from n place above (without_place below i) (proper-left n place above below i p))
       was.1.1
       refl
       b.without

@@ -9,7 +9,7 @@ use Rattle.timing.specs.Laws.{AtMost, ImproperIsNo, Leaving, Local, StepDown, Ti
 use Rattle.timing.specs.Places.{chosen, holds, proper, with_place, without_place}
 use Rattle.timing.specs.Rows.{of_item}
 use Rattle.timing.specs.Lemmas.Choosing.{chosen-set, item_there, nth-set}
-use Rattle.timing.specs.Lemmas.Properness.{proper-down, proper-from, proper-left, proper-says}
+use Rattle.timing.specs.Lemmas.Properness.{proper-down, proper_from, proper-left, proper_says}
 use Rattle.timing_tests.specs.Margin.{margin, narrowed, narrowed_table, of_table}
 
 -- the table that a margin asks about, for a proper question about the item x
@@ -21,7 +21,7 @@ narrowed-about g table place above below x p e =
 -- the same where the item was read at the place asked
 pub narrowed_read : (g : ℕ) (table : List Item) (place above below : ℕ) (x : Item) → proper (length table) place above below ≡ true → narrowed_table g table place above below ≡ cond (nat_le ((get_or table place x).length + g) (get_or table place x).window) (Some (slice_set table place (narrowed (get_or table place x) g))) None
 narrowed_read g table place above below x p =
-    narrowed-about g table place above below (get_or table place x) p (slice_get-get_or table place x (proper-says (length table) place above below p).asked_inside)
+    narrowed-about g table place above below (get_or table place x) p (slice_get-get_or table place x (proper_says (length table) place above below p).asked_inside)
 
 of_cond : {X : Type 0} (none : X) (ask : List Item → ℕ → ℕ → ℕ → X) (place above below : ℕ) (t : Bool) (table : List Item) → of_table ask none place above below (cond t (Some table) None) ≡ cond t (ask table place above below) none
 of_cond none ask place above below true table = refl
@@ -45,7 +45,7 @@ kept : (ask : List Item → ℕ → ℕ → ℕ → Bool) (g : ℕ) (table : Lis
 kept ask g table place above below pass =
     ⊎_elim
     (λ p.
-    let it = item_there table place (proper-says (length table) place above below p).asked_inside in
+    let it = item_there table place (proper_says (length table) place above below p).asked_inside in
     let x = it.0 in
     let said = sym (margin-about false ask g table place above below x p it.1) ∙ pass in
     ⊎_elim
@@ -63,25 +63,25 @@ module _ {R S : Type 0} (meaning : S → List Item → ℕ → ℕ → ℕ → B
   pub margin-down : StepDown meaning → StepDown (λ (r : R). margin false (meaning (test r)) (ticks r))
   margin-down law r table place above below i up pass =
       let k = kept (meaning (test r)) (ticks r) table place above below pass in
-      let p = proper-says (length table) place above below k.fine in
+      let p = proper_says (length table) place above below k.fine in
       margin-about false (meaning (test r)) (ticks r) table place (without_place above i) (with_place below i) k.item
-      (proper-from (length table) place (without_place above i) (with_place below i) (proper-down (length table) place above below i up p)) k.is
+      (proper_from (length table) place (without_place above i) (with_place below i) (proper-down (length table) place above below i up p)) k.is
       ∙ cond-true _ _ false k.keeps
       ∙ law (test r) (slice_set table place (narrowed k.item (ticks r))) place above below i up k.passes
 
   pub margin-leaving : Leaving meaning → Leaving (λ (r : R). margin false (meaning (test r)) (ticks r))
   margin-leaving law r table place above below i down pass =
       let k = kept (meaning (test r)) (ticks r) table place above below pass in
-      let p = proper-says (length table) place above below k.fine in
+      let p = proper_says (length table) place above below k.fine in
       margin-about false (meaning (test r)) (ticks r) table place above (without_place below i) k.item
-      (proper-from (length table) place above (without_place below i) (proper-left (length table) place above below i p)) k.is
+      (proper_from (length table) place above (without_place below i) (proper-left (length table) place above below i p)) k.is
       ∙ cond-true _ _ false k.keeps
       ∙ law (test r) (slice_set table place (narrowed k.item (ticks r))) place above below i down k.passes
 
   pub margin-local : Local meaning → Local (λ (r : R). margin false (meaning (test r)) (ticks r))
   margin-local law r table table' place place' above above' below below' p p' item up down =
-      let q = proper-says (length table) place above below p in
-      let q' = proper-says (length table') place' above' below' p' in
+      let q = proper_says (length table) place above below p in
+      let q' = proper_says (length table') place' above' below' p' in
       let it = item_there table place q.asked_inside in
       let x = it.0 in
       let y = narrowed x (ticks r) in
@@ -103,7 +103,7 @@ tight_item : (g : ℕ) (table tight : List Item) (place above below : ℕ) → n
 tight_item g table tight place above below is =
     ⊎_elim
     (λ p.
-    let inside = (proper-says (length table) place above below p).asked_inside in
+    let inside = (proper_says (length table) place above below p).asked_inside in
     let it = item_there table place inside in
     let x = it.0 in
     let said = sym (narrowed-about g table place above below x p it.1) ∙ is in
