@@ -1,10 +1,12 @@
 -- The chain that a checked body says, drafted row by row.
-use Rattle.std.proofs.Common.{◌≡◌, ℕ, ◌+◌, ◌/◌, ◌<◌, ◌-◌, List, map, length, Some, None, Option, sym, ◌∙◌, arith}
+use Rattle.std.proofs.Common.{◌≡◌, ℕ, ◌+◌, ◌-◌, ◌/◌, ◌<◌, List, map, length, None, Ok, Err, Option, Result, refl, sym, subst, ◌∙◌, arith}
+use Rattle.std.specs.Result.{IsOk}
 use Rattle.std.proofs.lemmas.List.FromFn.{length-map-range_with_len, map-range_with_len_more}
 use Rattle.std.proofs.lemmas.Bool.Decides.{nat_tests}
 use Rattle.std.specs.List.{range_with_len}
 use Rattle.chain.specs.declared.headings.Heading.{Heading}
-use Rattle.chain.specs.Drafting.{Contents, length_refusal, message_refusal, says, with_message, with_stage}
+use Rattle.chain.specs.declared.drafts.GivenBack.{GivenBack}
+use Rattle.chain.specs.Drafting.{Answers, Contents, length_refusal, message_refusal, says, with_message, with_stage}
 use Rattle.chain.specs.Refusals.{Described}
 use Rattle.chain_file.specs.Fields.{message_length, pin, stage, stage_length}
 use Rattle.chain_file.specs.Steps.{said_by, stages_in}
@@ -33,6 +35,11 @@ drafted_last h rest k is =
 pub message_fits : (most stages l : ℕ) → stages < most → length_refusal l ≡ None → message_refusal most stages l ≡ None
 message_fits most stages l few none = grind (arith, nat_tests)
 
--- nothing wrong, and yet a refusal
-pub not_refused : {why : Option Described} (w : Described) → why ≡ None → why ≡ Some w → ⊥
-not_refused w none some = let z : ◌≡◌ {A = ℕ} 0 1 = cc in omega arith
+-- a drafting call with nothing wrong is not refused, and gives the next draft
+module _ {D N : Type 0} (why : Option Described) (draft : D) (P : N → Type 0) where
+  pub not_refused : (r : Result N (GivenBack D)) → Answers why draft P r → why ≡ None → IsOk r
+  not_refused (Ok n) answer none = refl
+  not_refused (Err e) answer none = let z : ◌≡◌ {A = ℕ} 0 1 = cc in absurd (omega arith)
+
+  pub given_next : (r : Result N (GivenBack D)) (n : N) → Answers why draft P r → r ≡ Ok n → P n
+  given_next r n answer is = (subst (Answers why draft P) is answer).1

@@ -107,17 +107,10 @@ pub(super) fn build(heap: Global, heading: Heading, rest: &[u8]) -> Result<FileC
     let mut draft = AwaitingStage::with_heading(heap, heading)?;
     for row in rows {
         let (pin, length) = stage_in(row);
-        let Ok(staged) = draft.stage(pin, length) else {
-            unreachable!()
-        };
-        let Ok(waiting) = staged.message(message_in(row)) else {
-            unreachable!()
-        };
-        draft = waiting;
+        let staged = draft.stage(pin, length).unwrap();
+        draft = staged.message(message_in(row)).unwrap();
     }
     let (pin, length) = stage_in(last);
-    let Ok(staged) = draft.stage(pin, length) else {
-        unreachable!()
-    };
+    let staged = draft.stage(pin, length).unwrap();
     Ok(staged.finish())
 }

@@ -43,9 +43,7 @@ fn check_body(body: &[u8]) -> Result<(Heading, &[u8]), FileRefusal>
     requires { size_kept (length body.now) ≡ true }
     ensures { Checks body.now result }
 {
-    let Some((head, rest)) = split_body(body) else {
-        unreachable!()
-    };
+    let (head, rest) = split_body(body).unwrap();
     if body_size(usize::from(head.stages)) != body.len() {
         let length = body.len() as u16;
         return Err(FileRefusal::RecordSize { length });

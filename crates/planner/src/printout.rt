@@ -93,8 +93,7 @@ impl Printer {
     {
         let mut place = None;
         while let Read::Chain = reader.next(self.heap, &mut place)? {
-            let Some(chain) = &place else { unreachable!() };
-            self.put_chain(reader.boards, chain)?;
+            self.put_chain(reader.boards, place.as_ref().unwrap())?;
         }
         Ok(())
     }
