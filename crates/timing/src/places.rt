@@ -76,7 +76,7 @@ impl PlaceSet {
     }
 }
 
-// The conditions of a proper question, one by one.
+// The conditions of a proper question, one by one, and not yet what they mean.
 fn meets_conditions(n: usize, place: usize, above: PlaceSet, below: PlaceSet) -> bool
     ensures { result ≡ proper_test n place above.bits below.bits }
 {

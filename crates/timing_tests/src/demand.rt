@@ -11,7 +11,8 @@ use timing::rows::Row;
 // The functions below that have a parameter INCLUSIVE serve both tests, which differ in the releases
 // that count up to a tick t: on a board those before it, on the bus those at it too. A constant, so
 // that each test gets loops of its own with nothing to decide inside; a closure would be passed
-// through as many functions, and each would have to say what it gives.
+// through as many functions, and each would have to say what it gives. That t is at most 1,000,000
+// comes from the limit that `settled` keeps to; a type for it would be made anew each turn.
 
 // How often an item is released inside its first period.
 fn first_releases<const INCLUSIVE: bool>(t: u32) -> u32
@@ -85,7 +86,8 @@ fn share_of(item: Item) -> u64
     u64::from(item.length) * 4_294_967_296 / u64::from(item.period)
 }
 
-// What the items above take together.
+// What the items above take together. A loop as the one before: as a chain of `enumerate`, `filter`,
+// `map` and `sum` its proof did not close.
 #[tactic(auto, using(timing::specs::Lemmas::Choosing::chosen_skipped, crate::proofs::Demands::shares_taken))]
 fn shares_of(above: Row<'_>) -> u64
     ensures sum { result ≡ shares (items_of above.entry) }

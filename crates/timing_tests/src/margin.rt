@@ -32,7 +32,8 @@ fn tightened(item: Item, ticks: u32) -> Option<Item>
     }
 }
 
-// The table with another item at one place; behind it the copy is filled up.
+// The table with another item at one place; behind it the copy is filled up. An array, since asking
+// takes no memory; the kit's vector of fixed capacity is begun with a default item, and there is none.
 #[tactic(auto, using(crate::proofs::Copies::front_set))]
 fn replaced(table: &[Item], place: usize, item: Item) -> [Item; 32]
     requires few { length table.now ≤ 32 }
@@ -67,6 +68,7 @@ impl<T: TimingTest> TimingTest for Margin<T> {
 
     ghost leaving = { margin-leaving T.TimingTest.meaning (λ m. m.test) (λ m. m.ticks) T.TimingTest.leaving };
 
+    // A `let`, since the closure of `is_some_and` would have to require the table's length.
     fn passes(&self, question: Question<'_>) -> bool {
         let Some(tight) = narrowed(question, self.ticks) else {
             return false;
