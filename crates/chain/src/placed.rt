@@ -2,7 +2,8 @@
 use super::chains::Chain;
 use super::parts::Part;
 
-// A chain on its boards, stage by stage.
+// A chain on its boards, stage by stage. The boards stay a row beside the stages, since a caller tries
+// row after row on one chain.
 #[derive(Clone, Copy)]
 pub(super) struct Placed<'a, const S: usize, const B: u8> {
     pub chain: &'a Chain<S, B>,

@@ -75,6 +75,7 @@ impl Question {
             above: self.above,
             below: self.below,
         };
+        // A match and no `dyn`: the margin is generic over the test that it stands on.
         Ok(match self.test {
             Test::Board => replies_of(BoardTest, self.margin, asked),
             Test::Bus => replies_of(BusTest, self.margin, asked),

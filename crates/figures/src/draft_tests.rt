@@ -8,6 +8,8 @@ use chain::{BOARDS, STAGES};
 use std::alloc::Global;
 use std::test::Fail;
 
+// Where a refusal is wanted, `let Err(..) else` takes it: `err` and `ok_or_else` would say no more.
+
 type Waiting = AwaitingStage<STAGES, BOARDS>;
 
 type Staged = AwaitingMessage<STAGES, BOARDS>;

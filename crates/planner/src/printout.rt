@@ -45,7 +45,8 @@ fn put_windows(text: &mut String, parts: &[Windowed]) -> Result<(), AllocError>
 }
 
 // A print-out that is being written, and what each chain's line needs: memory for its placement,
-// and a row for its parts.
+// and a row for its parts. So a line is written by a method: `fmt` has neither, nor an error for want
+// of memory.
 #[derive(Drop)]
 struct Printer {
     heap: Global,
@@ -103,6 +104,7 @@ impl Printer {
         requires { reader.old.read ≤ most_chains }
         ensures { OnOk result (string_bytes self.new.text ≡ string_bytes self.old.text ++ reader_text reader.old) }
     {
+        // A match and no `?`, since one of the two errors is what is printed.
         match self.put_chains(reader) {
             Ok(()) => Ok(()),
             Err(ReadError::Refused(refusal)) => Ok(writeln!(self.text, "{refusal}")?),

@@ -2,7 +2,8 @@
 ghost use Rattle.std.specs.Prelude.{◌≡◌, ◌/◌, ◌%◌, ◌^◌, ◌<◌, ◌≤◌, true, ltb, if◌then◌else◌, Decides, ◌==◌, bit_and, nat_lt};
 ghost use Rattle.timing.specs.Places.{Proper, holds, most_items, proper, proper_test, with_place, without_place};
 
-// A set of places from 0 to 31: place p is in it if bit p is set.
+// A set of places from 0 to 31: place p is in it if bit p is set. Bits and no collection, by a rule of
+// the project.
 #[derive(Clone, Copy, Debug, PartialEq, Eq)]
 pub struct PlaceSet {
     pub bits: u32,
@@ -18,7 +19,7 @@ fn bit_of(place: usize) -> u32
 }
 
 impl PlaceSet {
-    // The set that holds no place.
+    // The set that holds no place. Its name says which set it is, as `default` would not.
     pub fn none() -> PlaceSet
         ensures { result.bits ≡ 0 }
     {
@@ -89,7 +90,8 @@ fn meets_conditions(n: usize, place: usize, above: PlaceSet, below: PlaceSet) ->
         && !below.has(place)
 }
 
-// Whether a question about a table of `n` items is proper.
+// Whether a question about a table of `n` items is proper. Numbers and no `Question`, since it is asked
+// of a length with no table at hand.
 #[tactic(auto, using(crate::specs::Lemmas::Properness::proper_says, crate::specs::Lemmas::Properness::proper_from), unfolding(crate::specs::Places::proper))]
 pub fn is_proper(n: usize, place: usize, above: PlaceSet, below: PlaceSet) -> bool
     ensures test { result ≡ proper n place above.bits below.bits }

@@ -78,6 +78,8 @@ impl<T: TimingTest> TimingTest for Margin<T> {
     }
 }
 
+// The body of `response` goes as that of `passes`: one for both would be passed the call to make, and
+// have to say of a table that it makes itself what that was called with.
 impl<T: TimedTest> TimedTest for Margin<T> {
     ghost time = { λ m. margin NoTime (T.TimedTest.time m.test) m.ticks };
 
