@@ -102,7 +102,9 @@ fn shares_of(above: Row<'_>) -> u64
     sum
 }
 
-// Whether an item and the items above need more than the whole board or bus.
+// Whether an item and the items above need more than the whole board or bus. Cold, since few questions
+// come to it, so that it is kept out of the way of the turns.
+#[cold]
 fn is_overload(item: Item, above: Row<'_>) -> bool
     ensures { result ≡ overload item (items_of above.entry) }
 {
