@@ -1,5 +1,5 @@
 // Asking, and counting what is answered.
-ghost use Rattle.std.specs.Prelude.{◌≡◌, ◌+◌, ◌-◌, ◌*◌, ◌%◌, ◌^◌, if◌then◌else◌, Some, None, nat_lt};
+ghost use Rattle.std.specs.Prelude.{◌≡◌, ◌+◌, ◌-◌, ◌*◌, ◌%◌, ◌^◌, ◌++◌, if◌then◌else◌, Some, None, codes, decimal, nat_lt};
 
 use super::reading::Task;
 use std::fmt;
@@ -25,6 +25,8 @@ pub struct Tallies {
 }
 
 impl fmt::Display for Tally {
+    ghost output = { λ tally. Some (decimal tally.passes ++ (codes " " ++ decimal tally.sum)) };
+
     fn fmt<W: fmt::Write>(&self, f: &mut fmt::Formatter<W>) -> fmt::Result {
         write!(f, "{} {}", self.passes, self.sum)
     }

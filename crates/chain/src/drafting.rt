@@ -1,10 +1,8 @@
 // The drafting calls. Each checks its numbers in a fixed order and refuses by the first that is
 // wrong. Memory is taken once, when a draft is started.
 ghost use Rattle.std.specs.Prelude.{◌≡◌, vec_len, IfOk, IsOkAnd};
-ghost use Rattle.std.specs.Option.{option_map};
-ghost use Rattle.std.specs.Result.{result_err};
 ghost use Rattle.chain.specs.Drafting.{Answers, Headed, Starts, contents, length_refusal, message_refusal, stage_refusal, staged, start_refusal, started, waiting, with_message, with_stage};
-ghost use Rattle.chain.specs.Refusals.{described};
+ghost use Rattle.chain.specs.Refusals.{described, refusal_of};
 
 use super::MOST_TICKS;
 use super::chains::Chain;
@@ -16,7 +14,7 @@ use std::alloc::{AllocError, Global};
 
 // Refuses a length of a stage or a message that is outside the limits.
 pub fn check_length(length: u32) -> Result<(), DraftRefusal>
-    ensures { option_map described (result_err result) ≡ length_refusal length }
+    ensures { refusal_of described result ≡ length_refusal length }
 {
     if 1 <= length && length <= MOST_TICKS {
         Ok(())
@@ -27,7 +25,7 @@ pub fn check_length(length: u32) -> Result<(), DraftRefusal>
 
 // Refuses a stage of chains with pins to boards 1 to `boards` that is outside the limits.
 pub fn check_stage(boards: u8, pin: u8, length: u32) -> Result<(), DraftRefusal>
-    ensures { option_map described (result_err result) ≡ stage_refusal boards pin length }
+    ensures { refusal_of described result ≡ stage_refusal boards pin length }
 {
     if pin <= boards {
         check_length(length)
@@ -39,7 +37,7 @@ pub fn check_stage(boards: u8, pin: u8, length: u32) -> Result<(), DraftRefusal>
 // Refuses a message on a draft of `stages` stages out of `most` that is full, or a length outside
 // the limits.
 pub fn check_message(most: usize, stages: usize, length: u32) -> Result<(), DraftRefusal>
-    ensures { option_map described (result_err result) ≡ message_refusal most stages length }
+    ensures { refusal_of described result ≡ message_refusal most stages length }
 {
     if stages >= most {
         Err(DraftRefusal::StagesFull)
@@ -102,6 +100,7 @@ impl<const S: usize, const B: u8> AwaitingStage<S, B> {
     ) -> Result<AwaitingMessage<S, B>, GivenBack<AwaitingStage<S, B>>>
         ensures { Answers (stage_refusal B pin length) self.entry (λ d. staged d ≡ with_stage (waiting self.entry) pin length) result }
     {
+        // No `map_err`, which would move the draft.
         if let Err(why) = check_stage(B, pin, length) {
             return Err(GivenBack { draft: self, why });
         }
@@ -133,6 +132,7 @@ impl<const S: usize, const B: u8> AwaitingMessage<S, B> {
     ) -> Result<AwaitingStage<S, B>, GivenBack<AwaitingMessage<S, B>>>
         ensures { Answers (message_refusal S (vec_len self.entry.chain.stages) length) self.entry (λ d. waiting d ≡ with_message (staged self.entry) length) result }
     {
+        // No `map_err`, which would move the draft.
         if let Err(why) = check_message(S, self.chain.stages.len(), length) {
             return Err(GivenBack { draft: self, why });
         }

@@ -38,7 +38,7 @@ pub struct GivenBack<D> {
     pub why: DraftRefusal,
 }
 
-// Why a draft was not started. Memory is taken by this call alone.
+// Why a draft was not started. Memory is taken then and never later.
 #[derive(Clone, Copy, Debug, PartialEq, Eq)]
 pub enum StartError {
     Refused(DraftRefusal),

@@ -1,7 +1,7 @@
 // The parts of a placed chain: its stages, and the messages that cross the bus.
 ghost use Rattle.std.specs.Prelude.{◌+◌, ◌≤◌, max, vec_capacity};
 
-// Where a part runs.
+// Where a part runs. No `Option` of a board, since the bus is a place as well.
 #[derive(Clone, Copy, Debug, PartialEq, Eq)]
 pub enum Place {
     Board(u8),

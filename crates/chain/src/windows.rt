@@ -96,6 +96,7 @@ impl<const S: usize, const B: u8> Iterator for Parts<'_, S, B> {
         if let Some(message) = self.message.take() {
             return Some(message);
         }
+        // Counted here, and nowhere else: a part says its stage, and boards go by it.
         let k = self.stage;
         let stage = self.placed.stage_at(k)?;
         self.message = self.placed.message_after(k);

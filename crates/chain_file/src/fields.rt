@@ -1,10 +1,8 @@
 // The fields of a record's body: read off their places, and checked in their order.
 ghost use Rattle.std.specs.Prelude.{◌≡◌, ◌+◌, ◌/◌, ◌%◌, ◌<◌, ◌≤◌, length, IfOk, None, MatchOption};
-ghost use Rattle.std.specs.Option.{option_map};
-ghost use Rattle.std.specs.Result.{result_err};
 ghost use Rattle.chain.specs.Drafting.{contents};
 ghost use Rattle.chain.specs.Limits.{most_stages};
-ghost use Rattle.chain.specs.Refusals.{described};
+ghost use Rattle.chain.specs.Refusals.{described, refusal_of};
 ghost use Rattle.chain_file.specs.Fields.{head, message_length, pin, rest, stage_length};
 ghost use Rattle.chain_file.specs.Format.{rows_refusal, stage_row_refusal};
 ghost use Rattle.chain_file.specs.Steps.{said_by, stages_in};
@@ -19,7 +17,7 @@ use std::alloc::{AllocError, Global};
 
 pub type FileChain = Chain<STAGES, BOARDS>;
 
-// The first eleven bytes of a body.
+// The first eleven bytes of a body, as they stand: what is checked of them is a heading.
 #[derive(Clone, Copy)]
 pub(super) struct Head {
     pub name: u16,
@@ -50,10 +48,8 @@ fn stage_in(row: &[u8]) -> (u8, u32)
     ensures pin { result.0 ≡ pin row.now 0 }
     ensures length { result.1 ≡ stage_length row.now 0 }
 {
-    let [pin, l0, l1, l2, l3, ..] = row else {
-        unreachable!()
-    };
-    (*pin, u32::from_be_bytes([*l0, *l1, *l2, *l3]))
+    let [pin, l0, l1, l2, l3] = *row.first_chunk::<5>().unwrap();
+    (pin, u32::from_be_bytes([l0, l1, l2, l3]))
 }
 
 // The length of the message after it.
@@ -66,7 +62,7 @@ fn message_in(row: &[u8; 9]) -> u32
 
 // Refuses a row's stage, and the message after it, that are outside the limits: the first of two.
 fn check_row(row: &[u8; 9]) -> Result<(), DraftRefusal>
-    ensures { option_map described (result_err result) ≡ stage_row_refusal 2 row.now 0 }
+    ensures { refusal_of described result ≡ stage_row_refusal 2 row.now 0 }
 {
     let (pin, length) = stage_in(row);
     check_stage(BOARDS, pin, length)?;
@@ -76,7 +72,7 @@ fn check_row(row: &[u8; 9]) -> Result<(), DraftRefusal>
 // Refuses the last row's stage where it is outside the limits: an only one.
 fn check_last(row: &[u8]) -> Result<(), DraftRefusal>
     requires { 5 ≤ length row.now }
-    ensures { option_map described (result_err result) ≡ stage_row_refusal 1 row.now 0 }
+    ensures { refusal_of described result ≡ stage_row_refusal 1 row.now 0 }
 {
     let (pin, length) = stage_in(row);
     check_stage(BOARDS, pin, length)
@@ -86,7 +82,7 @@ fn check_last(row: &[u8]) -> Result<(), DraftRefusal>
 // nine bytes.
 pub(super) fn check_rows(rest: &[u8]) -> Result<(), DraftRefusal>
     requires { length rest.now % 9 ≡ 5 }
-    ensures { option_map described (result_err result) ≡ rows_refusal (stages_in rest.now) rest.now }
+    ensures { refusal_of described result ≡ rows_refusal (stages_in rest.now) rest.now }
 {
     let (rows, last) = rest.as_chunks::<9>();
     for row in rows {

@@ -41,7 +41,7 @@ impl fmt::Display for RecordRefusal {
 }
 
 // Why no record was read. Memory is wanted only where nothing is wrong with the record. An enum of
-// its own beside `chain`'s, since its refusals are others: one for both would be named for neither.
+// its own beside `chain`'s, so that whoever matches on it is told just what a reader answers.
 #[derive(Clone, Copy, Debug, PartialEq, Eq)]
 pub enum ReadError {
     Refused(RecordRefusal),

@@ -1,5 +1,5 @@
 -- The answer to a question.
-use Rattle.std.specs.Prelude.{ℕ, Bool, false, List, None, vec_items, Option, Vec, Result, Ok, Err}
+use Rattle.std.specs.Prelude.{ℕ, Bool, false, cond, List, ◌++◌, codes, decimal, Some, None, vec_items, Option, Vec, Result, Ok, Err}
 use Rattle.std.specs.Global.{Global}
 use Rattle.timing.specs.declared.items.Item.{Item}
 use Rattle.timing.specs.declared.refusals.ItemRefusal.{ItemRefusal}
@@ -31,6 +31,14 @@ replies meaning time ticks table place above below =
 abbrev pub test_replies : Test → (ticks : ℕ) → List Item → (place above below : ℕ) → Replies
 test_replies Board = replies (by_rows false board_passes) (by_rows None board_time)
 test_replies Bus = replies (by_rows false bus_passes) (by_rows None bus_time)
+
+-- a reply as it is printed
+abbrev pub response_text : Option ℕ → List ℕ
+response_text (Some t) = decimal t
+response_text None = codes "-"
+
+abbrev pub reply_text : Reply → List ℕ
+reply_text r = cond r.passes (codes "yes") (codes "no") ++ (codes " " ++ response_text r.response)
 
 abbrev pub table_answer : Question → Result (Vec Item Global) ItemRefusal → Result Replies ItemRefusal
 table_answer q (Ok items) = Ok (test_replies q.test q.margin (vec_items items) q.place q.above.bits q.below.bits)

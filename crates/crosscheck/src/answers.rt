@@ -1,6 +1,7 @@
 // Answering a question.
-ghost use Rattle.std.specs.Prelude.{◌≡◌};
-ghost use Rattle.crosscheck.specs.Answers.{answer as answer_to, replies, reply};
+ghost use Rattle.std.specs.Prelude.{◌≡◌, ◌++◌, Some, codes};
+ghost use Rattle.timing.specs.Questions.{of_question};
+ghost use Rattle.crosscheck.specs.Answers.{answer as answer_to, replies, reply, reply_text};
 
 use super::questions::{Question, Test};
 use std::fmt;
@@ -27,6 +28,8 @@ pub struct Replies {
 }
 
 impl fmt::Display for Reply {
+    ghost output = { λ r. Some (reply_text r) };
+
     fn fmt<W: fmt::Write>(&self, f: &mut fmt::Formatter<W>) -> fmt::Result {
         let passes = if self.passes { "yes" } else { "no" };
         match self.response {
@@ -37,6 +40,8 @@ impl fmt::Display for Reply {
 }
 
 impl fmt::Display for Replies {
+    ghost output = { λ r. Some (reply_text r.plain ++ (codes " " ++ reply_text r.tight)) };
+
     fn fmt<W: fmt::Write>(&self, f: &mut fmt::Formatter<W>) -> fmt::Result {
         let Replies { plain, tight } = self;
         write!(f, "{plain} {tight}")
@@ -45,7 +50,7 @@ impl fmt::Display for Replies {
 
 // Asks a test in both ways.
 fn reply_of<T: TimedTest>(test: &T, asked: Asked<'_>) -> Reply
-    ensures { result ≡ reply (T.TimingTest.meaning test.now) (T.TimedTest.time test.now) asked.entry.table.now asked.entry.place asked.entry.above.bits asked.entry.below.bits }
+    ensures { result ≡ of_question (reply (T.TimingTest.meaning test.now) (T.TimedTest.time test.now)) asked.entry }
 {
     Reply {
         passes: test.passes(asked),
@@ -55,7 +60,7 @@ fn reply_of<T: TimedTest>(test: &T, asked: Asked<'_>) -> Reply
 
 // Asks a test alone and with the margin.
 fn replies_of<T: TimedTest + Copy>(test: T, ticks: u32, asked: Asked<'_>) -> Replies
-    ensures { result ≡ replies (T.TimingTest.meaning test) (T.TimedTest.time test) ticks asked.entry.table.now asked.entry.place asked.entry.above.bits asked.entry.below.bits }
+    ensures { result ≡ of_question (replies (T.TimingTest.meaning test) (T.TimedTest.time test) ticks) asked.entry }
 {
     Replies {
         plain: reply_of(&test, asked),

@@ -6,7 +6,6 @@ mod answers;
 mod questions;
 
 use answers::Replies;
-use chain::refusals::Refusal;
 use questions::Question;
 use std::io;
 use timing::refusals::ItemRefusal;
@@ -15,15 +14,7 @@ use timing::refusals::ItemRefusal;
 fn print_answer(rt: &impl Print, answer: &Result<Replies, ItemRefusal>) -> io::Result<()> {
     match answer {
         Ok(replies) => println!(rt; "{replies}"),
-        Err(refusal) => {
-            let number = refusal.number();
-            let ItemRefusal::OutsideLimits {
-                length,
-                period,
-                window,
-            } = refusal;
-            println!(rt; "refused {number} {length} {period} {window}")
-        }
+        Err(refusal) => println!(rt; "{refusal}"),
     }
 }
 

@@ -1,4 +1,5 @@
 // Timing tests: the worked figures, the limits of items and each kind of improper question, run.
+ghost use Rattle.timing.specs.Questions.{of_question};
 ghost use Rattle.timing_tests.specs.Tests.{BoardResponse, BusResponse};
 
 use chain::refusals::Refusal;
@@ -28,15 +29,15 @@ fn refused(length: u32, period: u32, window: u32) -> Option<(u8, u32, u32, u32)>
     Some((why.number(), length, period, window))
 }
 
-// What `least_end` promises of each test.
+// What `least_end` promises of each test: two functions, since each names the promise of its own.
 fn least_on_a_board(question: Question<'_>) -> Option<u32>
-    ensures { BoardResponse question.entry.table.now question.entry.place question.entry.above.bits question.entry.below.bits result }
+    ensures { of_question BoardResponse question.entry result }
 {
     BoardTest.least_end(question)
 }
 
 fn least_on_the_bus(question: Question<'_>) -> Option<u32>
-    ensures { BusResponse question.entry.table.now question.entry.place question.entry.above.bits question.entry.below.bits result }
+    ensures { of_question BusResponse question.entry result }
 {
     BusTest.least_end(question)
 }

@@ -1,7 +1,6 @@
 // The first allowed placement of a chain.
 ghost use Rattle.std.specs.Prelude.{◌≡◌, IfOk, Some};
-ghost use Rattle.std.specs.Option.{option_map};
-ghost use Rattle.std.specs.Result.{result_err};
+ghost use Rattle.chain.specs.Refusals.{refusal_of};
 ghost use Rattle.planner.specs.Printout.{refused_text};
 ghost use Rattle.planner.specs.Placement.{described as pin_described, first_board, first_boards, pin_refusal, placement_refusal};
 
@@ -37,7 +36,7 @@ impl fmt::Display for PinRefusal {
 
 // Refuses a stage whose pin is above the boards 1 to `boards`.
 fn check_pin(boards: u8, stage: Stage) -> Result<(), PinRefusal>
-    ensures { option_map pin_described (result_err result) ≡ pin_refusal boards stage }
+    ensures { refusal_of pin_described result ≡ pin_refusal boards stage }
 {
     match stage.pin {
         Pin::Board(pin) if pin > boards => Err(PinRefusal::PinAbove { pin }),
@@ -45,9 +44,10 @@ fn check_pin(boards: u8, stage: Stage) -> Result<(), PinRefusal>
     }
 }
 
-// Refuses a chain by the first of its stages whose pin is above the boards.
+// Refuses a chain by the first of its stages whose pin is above the boards. A `for` with `?`: by
+// `try_for_each` its proof did not close.
 pub(super) fn check_pins(boards: u8, stages: &[Stage]) -> Result<(), PinRefusal>
-    ensures { option_map pin_described (result_err result) ≡ placement_refusal boards stages.now }
+    ensures { refusal_of pin_described result ≡ placement_refusal boards stages.now }
 {
     for stage in stages {
         check_pin(boards, *stage)?;

@@ -25,8 +25,8 @@ impl From<AllocError> for NoMemory {
     }
 }
 
-// One window of a chain's line. `Windowed` and `Display` belong to other crates, and a type of our
-// own around a window would be no plainer than this.
+// One window of a chain's line. No `Display` of `Windowed`, since that would have to show the part too,
+// and a type around a window would be no plainer than this.
 fn put_window(text: &mut String, part: Windowed) -> Result<(), AllocError>
     ensures { OnOk result (string_bytes text.new ≡ string_bytes text.old ++ window_text part) }
 {
@@ -34,6 +34,7 @@ fn put_window(text: &mut String, part: Windowed) -> Result<(), AllocError>
     write!(text, " {window}")
 }
 
+// The windows of a chain's line. A loop, since a row of another crate's type has no `Display`.
 fn put_windows(text: &mut String, parts: &[Windowed]) -> Result<(), AllocError>
     ensures { OnOk result (string_bytes text.new ≡ string_bytes text.old ++ windows_text parts.now) }
 {
@@ -59,6 +60,7 @@ impl Printer {
     fn put_placed(&mut self, chain: &FileChain, boards: &[u8]) -> Result<(), AllocError>
         ensures { OnOk result (string_bytes self.new.text ≡ string_bytes self.old.text ++ placed_text (contents chain.now) boards.now) }
     {
+        // A match, since either answer is printed.
         match self.row.place(chain, boards) {
             Ok(()) => put_windows(&mut self.text, self.row.parts.as_slice()),
             Err(TooLong) => self.text.push_str(" long"),
@@ -117,6 +119,7 @@ impl Printer {
 pub fn report(heap: Global, bytes: &[u8]) -> Result<String, NoMemory>
     ensures { IfOk result (λ text. string_bytes text ≡ printout bytes.now) }
 {
+    // A match, since the error is what is printed.
     let mut reader = match Reader::open(bytes) {
         Ok(reader) => reader,
         Err(refusal) => return Ok(format!(in heap; "{refusal}\n")?),

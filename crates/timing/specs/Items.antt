@@ -1,5 +1,6 @@
 -- Items: their limits, and the refusal of other numbers.
-use Rattle.std.specs.Prelude.{◌≡◌, ℕ, Bool, ◌&&◌, [], ◌∷◌, Some, None, Ok, Err, Option, Result, nat_le}
+use Rattle.std.specs.Prelude.{◌≡◌, ℕ, Bool, ◌&&◌, List, [], ◌∷◌, ◌++◌, codes, decimal, Some, None, Ok, Err, Option, Result, nat_le}
+use Rattle.std.specs.List.{flat_map}
 use Rattle.chain.specs.Limits.{most_ticks}
 use Rattle.chain.specs.Refusals.{Described, first_of, numbered, unless}
 use Rattle.timing.specs.declared.items.Item.{Item}
@@ -8,6 +9,10 @@ use Rattle.timing.specs.declared.refusals.ItemRefusal.TheVariants.{OutsideLimits
 
 abbrev pub described : ItemRefusal → Described
 described (OutsideLimits length period window) = numbered 20 (length ∷ period ∷ window ∷ [])
+
+-- a refusal as it is printed: its number and its values
+abbrev pub refused_text : Described → List ℕ
+refused_text why = codes "refused " ++ (decimal why.number ++ flat_map (λ n. codes " " ++ decimal n) why.values)
 
 -- 1 ≤ length ≤ window ≤ period ≤ 1,000,000
 abbrev pub item_kept : (length period window : ℕ) → Bool

@@ -2,6 +2,7 @@
 // and a timed one.
 ghost use Rattle.std.specs.Prelude.{◌≡◌, ℕ, false, List, None as NoTime, Option as OptionOf};
 ghost use Rattle.timing.specs.declared.items.Item.{Item as ItemOf};
+ghost use Rattle.timing.specs.Questions.{of_question};
 ghost use Rattle.timing.specs.RowLaws.{Least, LeastEnd, RowLeaving, RowStepDown, Within, some_time};
 ghost use Rattle.timing.specs.Rows.{by_rows, items_of};
 ghost use Rattle.timing.specs.Lemmas.Rows.{rows_improper, rows_local, rows_down, rows_leaving};
@@ -27,8 +28,8 @@ pub trait RowTest {
     // The least time at which the item asked can end, where there is one inside its window; none
     // where the question is improper.
     final fn least_end(&self, question: Question<'_>) -> Option<u32>
-        ensures same { result ≡ by_rows NoTime (time self.now) question.entry.table.now question.entry.place question.entry.above.bits question.entry.below.bits }
-        ensures least { LeastEnd (Ends self.now) question.entry.table.now question.entry.place question.entry.above.bits question.entry.below.bits result }
+        ensures same { result ≡ of_question (by_rows NoTime (time self.now)) question.entry }
+        ensures least { of_question (LeastEnd (Ends self.now)) question.entry result }
     {
         if !question.is_proper() {
             return None;

@@ -1,6 +1,7 @@
 // Timing tests that also say when.
 ghost use Rattle.std.specs.Prelude.{◌≡◌, ℕ, List, Option as OptionOf};
 ghost use Rattle.timing.specs.declared.items.Item.{Item as ItemOf};
+ghost use Rattle.timing.specs.Questions.{of_question};
 ghost use Rattle.timing.specs.Laws.{Timely};
 
 use super::questions::Question;
@@ -13,6 +14,6 @@ pub trait TimedTest: TimingTest {
     // The response that the test's own definition gives: there is one exactly where the item
     // passes, and it is at most the item's window.
     fn response(&self, question: Question<'_>) -> Option<u32>
-        ensures same { result ≡ time self.now question.entry.table.now question.entry.place question.entry.above.bits question.entry.below.bits }
-        ensures timely { Timely (Self.TimingTest.meaning self.now question.entry.table.now question.entry.place question.entry.above.bits question.entry.below.bits) question.entry.table.now question.entry.place result };
+        ensures same { result ≡ of_question (time self.now) question.entry }
+        ensures timely { Timely (of_question (Self.TimingTest.meaning self.now) question.entry) question.entry.table.now question.entry.place result };
 }

@@ -2,6 +2,7 @@
 // test.
 ghost use Rattle.std.specs.Prelude.{◌≡◌, ℕ, Bool, List};
 ghost use Rattle.timing.specs.declared.items.Item.{Item as ItemOf};
+ghost use Rattle.timing.specs.Questions.{of_question};
 ghost use Rattle.timing.specs.Laws.{ImproperIsNo, Leaving, Local, StepDown};
 
 use super::questions::Question;
@@ -12,7 +13,7 @@ pub trait TimingTest {
 
     // What the meaning says of the question; nothing is changed.
     fn passes(&self, question: Question<'_>) -> bool
-        ensures { result ≡ meaning self.now question.entry.table.now question.entry.place question.entry.above.bits question.entry.below.bits };
+        ensures { result ≡ of_question (meaning self.now) question.entry };
 
     // Four laws, which each implementation proves. They stand below the last method, where the
     // language looks for laws.

@@ -1,5 +1,6 @@
 // A margin over any timing test.
 ghost use Rattle.std.specs.Prelude.{◌≡◌, ◌<◌, ◌≤◌, false, length, take, None as NoTime, slice_set};
+ghost use Rattle.timing.specs.Questions.{of_question};
 ghost use Rattle.timing_tests.specs.Margin.{margin};
 ghost use Rattle.timing_tests.specs.Steps.{Narrowed, Tightened};
 ghost use Rattle.timing_tests.specs.Lemmas.MarginLaws.{margin-improper, margin-local, margin-down, margin-leaving};
@@ -48,7 +49,7 @@ fn replaced(table: &[Item], place: usize, item: Item) -> [Item; 32]
 
 // The table that the test below is asked about, behind which the copy is filled up.
 fn narrowed(question: Question<'_>, ticks: u32) -> Option<[Item; 32]>
-    ensures { Narrowed ticks question.entry.table.now question.entry.place question.entry.above.bits question.entry.below.bits result }
+    ensures { of_question (Narrowed ticks) question.entry result }
 {
     if !question.is_proper() {
         return None;
