@@ -13,6 +13,7 @@ pub struct Task {
 impl Task {
     // The whole line is read before any item is made.
     pub(super) fn read(heap: Global, line: &str) -> anyhow::Result<Task> {
+        // As `crosscheck` reads a question: the library's methods in both, and no crate for two chains.
         let numbers = line
             .split(' ')
             .map(|word| word.parse::<u32>())

@@ -91,7 +91,8 @@ impl<const S: usize, const B: u8> AwaitingStage<S, B> {
         })
     }
 
-    // Takes a stage: a pin of 0 leaves it free, any other names its only board.
+    // Takes a stage: a pin of 0 leaves it free, any other names its only board. A number and no `Pin`,
+    // since it comes from outside and one above the boards is refused.
     #[tactic(auto, using(crate::proofs::Kept::one_more_kept, crate::proofs::Kept::unrefused_stage_kept))]
     pub fn stage(
         self,

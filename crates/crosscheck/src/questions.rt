@@ -50,6 +50,8 @@ impl Question {
             .split_once(' ')
             .context("a question has at least five words")?;
         let test = test.parse::<Test>()?;
+        // As `benchmark` reads its line, but for what stands first and for the error of an item; a crate
+        // for two chains of the library's methods would be no plainer.
         let numbers = words
             .split(' ')
             .map(|word| word.parse::<u32>())

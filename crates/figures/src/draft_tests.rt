@@ -8,8 +8,6 @@ use chain::{BOARDS, STAGES};
 use std::alloc::Global;
 use std::test::Fail;
 
-// Where a refusal is wanted, `let Err(..) else` takes it: `err` and `ok_or_else` would say no more.
-
 type Waiting = AwaitingStage<STAGES, BOARDS>;
 
 type Staged = AwaitingMessage<STAGES, BOARDS>;
@@ -71,9 +69,10 @@ fn times_outside_limits_are_refused(rt: HostRuntime) {
 
 #[test]
 fn a_pin_above_4_is_refused_before_the_length(rt: HostRuntime) -> Result<(), Fail> {
-    let Err(back) = started(rt.alloc())?.stage(5, 0) else {
-        return Err(Fail::new("taken"));
-    };
+    let back = started(rt.alloc())?
+        .stage(5, 0)
+        .err()
+        .ok_or_else(|| Fail::new("taken"))?;
     assert_eq!(rt; back.why, DraftRefusal::PinAbove { pin: 5 });
     assert_eq!(rt; back.why.number(), 3);
     let chain = stage(back.draft, 4, 3)?.finish();
@@ -89,19 +88,20 @@ fn a_pin_above_4_is_refused_before_the_length(rt: HostRuntime) -> Result<(), Fai
 
 #[test]
 fn a_length_outside_limits_is_refused(rt: HostRuntime) -> Result<(), Fail> {
-    let Err(back) = started(rt.alloc())?.stage(0, 0) else {
-        return Err(Fail::new("taken"));
-    };
+    let back = started(rt.alloc())?
+        .stage(0, 0)
+        .err()
+        .ok_or_else(|| Fail::new("taken"))?;
     assert_eq!(rt; back.why, DraftRefusal::Length { length: 0 });
     assert_eq!(rt; back.why.number(), 2);
-    let Err(back) = back.draft.stage(0, 1_000_001) else {
-        return Err(Fail::new("taken"));
-    };
+    let back = back
+        .draft
+        .stage(0, 1_000_001)
+        .err()
+        .ok_or_else(|| Fail::new("taken"))?;
     assert_eq!(rt; back.why, DraftRefusal::Length { length: 1_000_001 });
     let staged = stage(back.draft, 0, 1_000_000)?;
-    let Err(back) = staged.message(0) else {
-        return Err(Fail::new("taken"));
-    };
+    let back = staged.message(0).err().ok_or_else(|| Fail::new("taken"))?;
     assert_eq!(rt; back.why, DraftRefusal::Length { length: 0 });
     let chain = stage(message(back.draft, 5)?, 2, 6)?.finish();
     assert!(rt; chain.stages.len() == 2);
@@ -118,9 +118,7 @@ fn a_message_on_six_stages_is_refused_before_its_length(rt: HostRuntime) -> Resu
     for length in 2..7u32 {
         draft = stage(message(draft, length)?, 0, length)?;
     }
-    let Err(back) = draft.message(0) else {
-        return Err(Fail::new("taken"));
-    };
+    let back = draft.message(0).err().ok_or_else(|| Fail::new("taken"))?;
     assert_eq!(rt; back.why, DraftRefusal::StagesFull);
     assert_eq!(rt; back.why.number(), 4);
     let chain: Chain<STAGES, BOARDS> = back.draft.finish();
