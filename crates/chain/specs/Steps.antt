@@ -3,7 +3,9 @@ use Rattle.std.specs.Prelude.{◌≡◌, ℕ, ◌<◌, List, ◌++◌, drop, Som
 use Rattle.std.specs.Option.{option_to_list}
 use Rattle.chain.specs.declared.parts.Part.{Part}
 use Rattle.chain.specs.declared.placed.Parts.{Parts}
-use Rattle.chain.specs.Parts.{parts_from}
+use Rattle.chain.specs.declared.placed.Placed.{Placed}
+use Rattle.chain.specs.Drafting.{contents}
+use Rattle.chain.specs.Parts.{parts, parts_from}
 use Rattle.chain.specs.declared.paces.Pace.{Pace}
 
 -- A pace of some work to be done at a deadline, answered where the work is within the deadline.
@@ -11,6 +13,10 @@ use Rattle.chain.specs.declared.paces.Pace.{Pace}
 abbrev pub Paced : (deadline work : ℕ) → Option Pace → Type 0
 Paced deadline work (Some p) = (p.work ≡ work) × (p.deadline ≡ deadline)
 Paced deadline work None = deadline < work
+
+-- the parts of a placed chain
+abbrev pub parts_of : {S B : ℕ} → Placed S B → List Part
+parts_of p = parts (contents p.chain.now) p.boards.now
 
 -- the parts that are still to come
 abbrev pub left : {S B : ℕ} → Parts S B → List Part

@@ -45,6 +45,7 @@ pub enum StartError {
     NoMemory,
 }
 
+// Both by hand: the derive of `thiserror` says nothing of the error that it makes.
 impl From<DraftRefusal> for StartError {
     ghost use Rattle.chain.specs.declared.drafts.StartError.TheVariants.{Refused};
 

@@ -4,7 +4,7 @@ ghost use Rattle.std.specs.Iterator.{YieldsFirst, item_count};
 ghost use Rattle.std.specs.Option.{option_to_list};
 ghost use Rattle.chain.specs.Drafting.{contents};
 ghost use Rattle.chain.specs.Parts.{message_part, parts, sent, stage_part, total};
-ghost use Rattle.chain.specs.Steps.{Paced, left};
+ghost use Rattle.chain.specs.Steps.{Paced, left, parts_of};
 ghost use Rattle.chain.specs.Windows.{Fill, Places, end, windowed, windows};
 
 use super::chains::Chain;
@@ -55,7 +55,7 @@ impl<'a, const S: usize, const B: u8> Placed<'a, S, B> {
 
     // The chain's parts, in order.
     fn parts(self) -> Parts<'a, S, B>
-        ensures { left result ≡ parts (contents self.entry.chain.now) self.entry.boards.now }
+        ensures { left result ≡ parts_of self.entry }
     {
         Parts {
             placed: self,
@@ -67,7 +67,7 @@ impl<'a, const S: usize, const B: u8> Placed<'a, S, B> {
     // The pace of the chain's work, where the parts together are within the deadline.
     #[tactic(auto, using(crate::proofs::Filling::some_work))]
     fn pace(self) -> Option<Pace>
-        ensures { Paced self.entry.chain.now.heading.deadline (total (parts (contents self.entry.chain.now) self.entry.boards.now)) result }
+        ensures { Paced self.entry.chain.now.heading.deadline (total (parts_of self.entry)) result }
     {
         let deadline = self.chain.heading.deadline;
         let mut upto = 0u64;
@@ -147,7 +147,7 @@ fn put(row: &mut Vec<Windowed>, pace: Pace, before: u32, part: Part)
 // Adds the windows of a chain's parts to an empty row, at the pace of the parts together.
 #[tactic(auto, using(crate::proofs::PartSteps::few_parts))]
 fn fill<const S: usize, const B: u8>(row: &mut Vec<Windowed>, placed: Placed<'_, S, B>, pace: Pace)
-    requires work { pace.work ≡ total (parts (contents placed.chain.now) placed.boards.now) }
+    requires work { pace.work ≡ total (parts_of placed) }
     requires deadline { pace.deadline ≡ placed.chain.now.heading.deadline }
     requires empty { (row.old.items ≡ []) × (vec_len row.old ≡ 0) }
     requires room { vec_len placed.chain.now.stages + vec_len placed.chain.now.stages ≤ vec_capacity row.old }

@@ -41,13 +41,15 @@ impl fmt::Display for RecordRefusal {
 }
 
 // Why no record was read. Memory is wanted only where nothing is wrong with the record. An enum of
-// its own beside `chain`'s, so that whoever matches on it is told just what a reader answers.
+// its own beside `chain`'s: one for both, generic in what is refused, could not have `From` of that
+// beside `From<AllocError>`, since the two overlap.
 #[derive(Clone, Copy, Debug, PartialEq, Eq)]
 pub enum ReadError {
     Refused(RecordRefusal),
     NoMemory,
 }
 
+// Both by hand: the derive of `thiserror` says nothing of the error that it makes.
 impl From<RecordRefusal> for ReadError {
     ghost use Rattle.std.specs.Prelude.{◌≡◌};
     ghost use Rattle.chain_file.specs.declared.readers.ReadError.TheVariants.{Refused};

@@ -30,6 +30,7 @@ impl Refusal for FileRefusal {
     }
 }
 
+// By hand: the derive of `thiserror` says nothing of the error that it makes.
 impl From<DraftRefusal> for FileRefusal {
     ghost from_gives = { λ why e. e ≡ Field why };
 

@@ -10,7 +10,7 @@ use questions::Question;
 use std::io;
 use timing::refusals::ItemRefusal;
 
-// Prints an answer as a line.
+// Prints an answer as a line: a match, since a refusal is printed too.
 fn print_answer(rt: &impl Print, answer: &Result<Replies, ItemRefusal>) -> io::Result<()> {
     match answer {
         Ok(replies) => println!(rt; "{replies}"),

@@ -19,11 +19,15 @@ use thiserror::Error;
 #[error("no memory for the print-out")]
 pub struct NoMemory;
 
+// By hand: no derive makes an error without fields of another.
 impl From<AllocError> for NoMemory {
     fn from(_e: AllocError) -> NoMemory {
         NoMemory
     }
 }
+
+// Each of the functions that follow says in the library's words which text it adds; a word of our own
+// for that would be as long.
 
 // One window of a chain's line. No `Display` of `Windowed`, since that would have to show the part too,
 // and a type around a window would be no plainer than this.
@@ -34,7 +38,7 @@ fn put_window(text: &mut String, part: Windowed) -> Result<(), AllocError>
     write!(text, " {window}")
 }
 
-// The windows of a chain's line. A loop, since a row of another crate's type has no `Display`.
+// The windows of a chain's line. A loop: a type around the row, to have a `Display`, would be no plainer.
 fn put_windows(text: &mut String, parts: &[Windowed]) -> Result<(), AllocError>
     ensures { OnOk result (string_bytes text.new ≡ string_bytes text.old ++ windows_text parts.now) }
 {
@@ -72,6 +76,7 @@ impl Printer {
         ensures { OnOk result (string_bytes self.new.text ≡ string_bytes self.old.text ++ answer_text (placement_refusal boards chain.now.stages.items) (contents chain.now)) }
     {
         let stages = chain.stages.as_slice();
+        // An `if let` and no `?`, since the error is what is printed.
         if let Err(why) = check_pins(boards, stages) {
             return write!(self.text, " {why}");
         }

@@ -148,8 +148,9 @@ pub(super) fn settled<const INCLUSIVE: bool>(
 }
 
 // The longest length of the items of a row, 0 where it has none. A length is read before its bit is
-// looked at, as the work above is worked out: read behind it, as a `filter` would have it, both tests
-// answered a third fewer questions a second.
+// looked at, as the work above is worked out: read behind it, as a `filter` would have it, the tests
+// miss the speed that they have by a third. A fold for this and the two sums would be handed what to add
+// and in which order to look, and be no plainer.
 #[tactic(auto, using(timing::specs::Lemmas::Choosing::chosen_skipped, crate::proofs::Demands::longest_taken, crate::proofs::Demands::longest_small))]
 fn longest_of(row: Row<'_>) -> u32
     ensures longest { result ≡ longest (items_of row.entry) }
