@@ -7,7 +7,7 @@ mod questions;
 
 use answers::Replies;
 use questions::Question;
-use std::io;
+use std::io::{self, BufRead, BufReader};
 use timing::refusals::ItemRefusal;
 
 // Prints an answer as a line: a match, since a refusal is printed too.
@@ -18,10 +18,10 @@ fn print_answer(rt: &impl Print, answer: &Result<Replies, ItemRefusal>) -> io::R
     }
 }
 
-// Answers line after line.
+// Answers line after line. By a buffer of its own: `rt.lines` reads a pipe byte by byte.
 fn answer_lines(rt: &(impl AllocGlobal + Input + Print)) -> anyhow::Result<()> {
     let heap = rt.alloc();
-    for line in rt.lines(heap) {
+    for line in BufReader::new(heap, rt.reader())?.lines(heap) {
         let question = Question::read(heap, line?.as_str())?;
         print_answer(rt, &question.answer())?;
     }
