@@ -12,6 +12,10 @@ end-at_start d s = ap (λ n. n / s) (mul-zero d) ∙ zero-div s
 pub end-at_last : (deadline sum : ℕ) → 1 ≤ sum → end deadline sum sum ≡ deadline
 end-at_last d s some = mul-div_cancel d some
 
+-- more work ends no earlier
+pub end-rises : (deadline sum before after : ℕ) → 1 ≤ sum → before ≤ after → end deadline sum before ≤ end deadline sum after
+end-rises d s b a some on = (le-div_iff_mul-le some).1 (omega (arith, div-mul-le_self (d * b) s, mul-le-mul_left d on))
+
 -- where the work fits the deadline, a part's window holds the part
 pub ends_apart : (deadline sum before length : ℕ) → 1 ≤ sum → sum ≤ deadline → end deadline sum before + length ≤ end deadline sum (before + length)
 ends_apart d s b c some fits =

@@ -1,11 +1,9 @@
 -- What steps inside the crate promise each other. No public contract cites these.
-use Rattle.std.specs.Prelude.{◌≡◌, ℕ, ◌<◌, List, ◌++◌, drop, Some, None, Option}
-use Rattle.std.specs.Option.{option_to_list}
+use Rattle.std.specs.Prelude.{◌≡◌, ℕ, ◌<◌, List, Some, None, Option}
 use Rattle.chain.specs.declared.parts.Part.{Part}
-use Rattle.chain.specs.declared.placed.Parts.{Parts}
 use Rattle.chain.specs.declared.placed.Placed.{Placed}
 use Rattle.chain.specs.Drafting.{contents}
-use Rattle.chain.specs.Parts.{parts, parts_from}
+use Rattle.chain.specs.Parts.{parts}
 use Rattle.chain.specs.declared.paces.Pace.{Pace}
 
 -- A pace of some work to be done at a deadline, answered where the work is within the deadline.
@@ -17,7 +15,3 @@ Paced deadline work None = deadline < work
 -- the parts of a placed chain
 abbrev pub parts_of : {S B : ℕ} → Placed S B → List Part
 parts_of p = parts (contents p.chain.now) p.boards.now
-
--- the parts that are still to come
-abbrev pub left : {S B : ℕ} → Parts S B → List Part
-left p = option_to_list p.message ++ parts_from p.placed.chain.now.messages.items p.placed.boards.now p.stage (drop p.stage p.placed.chain.now.stages.items)

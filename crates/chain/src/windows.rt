@@ -1,19 +1,18 @@
 // The windows of a chain's parts once each stage has a board.
-ghost use Rattle.std.specs.Prelude.{◌≡◌, ◌+◌, ◌-◌, ◌^◌, ◌<◌, ◌≤◌, [], ◌∷◌, ◌++◌, IfOk, MatchOption, None, Some, vec_len, vec_capacity, nat_lt, slice_index, slice_get};
-ghost use Rattle.std.specs.Iterator.{YieldsFirst, item_count};
+ghost use Rattle.std.specs.Prelude.{◌≡◌, ◌+◌, ◌-◌, ◌^◌, ◌<◌, ◌≤◌, [], ◌++◌, IfOk, vec_len, vec_capacity, nat_lt, slice_index};
 ghost use Rattle.std.specs.Option.{option_to_list};
 ghost use Rattle.chain.specs.Drafting.{contents};
-ghost use Rattle.chain.specs.Parts.{message_part, parts, sent, stage_part, total};
-ghost use Rattle.chain.specs.Steps.{Paced, left, parts_of};
+ghost use Rattle.chain.specs.Parts.{message_part, parts, sent, total};
+ghost use Rattle.chain.specs.Steps.{Paced, parts_of};
 ghost use Rattle.chain.specs.Windows.{Fill, Places, end, windowed, windows};
 
 use super::chains::Chain;
 use super::paces::Pace;
 use super::parts::{Part, PartRow, Place, TooLong, Windowed};
-use super::placed::{Parts, Placed};
+use super::placed::Placed;
 use std::alloc::{AllocError, Global};
 
-impl<'a, const S: usize, const B: u8> Placed<'a, S, B> {
+impl<const S: usize, const B: u8> Placed<'_, S, B> {
     // The board of stage `k`, counting from 0; past the row's end 0.
     fn board_of(self, k: usize) -> u8
         ensures { result ≡ slice_index self.entry.boards.now k }
@@ -41,38 +40,26 @@ impl<'a, const S: usize, const B: u8> Placed<'a, S, B> {
         })
     }
 
-    // The stage `k` as a part, where there is one.
-    fn stage_at(self, k: usize) -> Option<Part>
-        ensures { MatchOption (slice_get self.entry.chain.now.stages.items k) (result ≡ None) (λ s. result ≡ Some (stage_part self.entry.boards.now k s)) }
+    // The length of the message after stage `k`, where it is sent; else 0.
+    fn sent_after(self, k: usize) -> u32
+        ensures { result ≡ total (message_part self.entry.chain.now.messages.items self.entry.boards.now k) }
     {
-        let length = self.chain.stages.get(k)?.length;
-        Some(Part {
-            place: Place::Board(self.board_of(k)),
-            stage: k + 1,
-            length,
-        })
-    }
-
-    // The chain's parts, in order.
-    fn parts(self) -> Parts<'a, S, B>
-        ensures { left result ≡ parts_of self.entry }
-    {
-        Parts {
-            placed: self,
-            stage: 0,
-            message: None,
+        if k < self.chain.messages.len() && self.is_sent(k) {
+            self.chain.messages[k]
+        } else {
+            0
         }
     }
 
-    // The pace of the chain's work, where the parts together are within the deadline.
-    #[tactic(auto, using(crate::proofs::Filling::some_work))]
+    // The pace of the chain's work, where the parts together are within the deadline. Stage by stage,
+    // as the row is filled: by an iterator over the parts a placement took up to twice the time.
     fn pace(self) -> Option<Pace>
         ensures { Paced self.entry.chain.now.heading.deadline (total (parts_of self.entry)) result }
     {
         let deadline = self.chain.heading.deadline;
         let mut upto = 0u64;
-        for part in self.parts() {
-            upto += u64::from(part.length);
+        for (k, stage) in self.chain.stages.iter().enumerate() {
+            upto += u64::from(stage.length) + u64::from(self.sent_after(k));
             if is_past(deadline, upto) {
                 return None;
             }
@@ -81,27 +68,6 @@ impl<'a, const S: usize, const B: u8> Placed<'a, S, B> {
             deadline,
             work: upto as u32,
         })
-    }
-}
-
-impl<const S: usize, const B: u8> Iterator for Parts<'_, S, B> {
-    type Item = Part;
-
-    ghost next_gives = { YieldsFirst left };
-
-    ghost remaining = { item_count left };
-
-    #[tactic(auto, using(crate::proofs::PartSteps::no_parts, crate::proofs::PartSteps::next_parts))]
-    fn next(&mut self) -> Option<Part> {
-        if let Some(message) = self.message.take() {
-            return Some(message);
-        }
-        // Counted here, and nowhere else: a part says its stage, and boards go by it.
-        let k = self.stage;
-        let stage = self.placed.stage_at(k)?;
-        self.message = self.placed.message_after(k);
-        self.stage = k + 1;
-        Some(stage)
     }
 }
 
@@ -132,20 +98,26 @@ impl Pace {
     }
 }
 
-// Adds a part with its window, `before` ticks of work being done before it.
-fn put(row: &mut Vec<Windowed>, pace: Pace, before: u32, part: Part)
-    requires within { before + part.length ≤ pace.work }
+// Adds a part, where there is one, with its window, `before` ticks of work being done before it.
+// Answers the work done after it.
+fn put(row: &mut Vec<Windowed>, pace: Pace, before: u32, part: Option<Part>) -> u32
+    requires within { before + total (option_to_list part) ≤ pace.work }
     requires room { vec_len row.old < vec_capacity row.old }
-    ensures items { row.new.items ≡ row.old.items ++ windowed pace.deadline pace.work before (part ∷ []) }
-    ensures len { vec_len row.new ≡ vec_len row.old + 1 }
+    ensures after { result ≡ before + total (option_to_list part) }
+    ensures items { row.new.items ≡ row.old.items ++ windowed pace.deadline pace.work before (option_to_list part) }
+    ensures len { vec_len row.new ≤ vec_len row.old + 1 }
     ensures capacity { vec_capacity row.new ≡ vec_capacity row.old }
 {
-    let window = pace.window_of(before, before + part.length);
+    let Some(part) = part else {
+        return before;
+    };
+    let after = before + part.length;
+    let window = pace.window_of(before, after);
     row.push_reserved(Windowed { part, window });
+    after
 }
 
 // Adds the windows of a chain's parts to an empty row, at the pace of the parts together.
-#[tactic(auto, using(crate::proofs::PartSteps::few_parts))]
 fn fill<const S: usize, const B: u8>(row: &mut Vec<Windowed>, placed: Placed<'_, S, B>, pace: Pace)
     requires work { pace.work ≡ total (parts_of placed) }
     requires deadline { pace.deadline ≡ placed.chain.now.heading.deadline }
@@ -156,9 +128,15 @@ fn fill<const S: usize, const B: u8>(row: &mut Vec<Windowed>, placed: Placed<'_,
     ensures capacity { vec_capacity row.new ≡ vec_capacity row.old }
 {
     let mut before = 0u32;
-    for part in placed.parts() {
-        put(row, pace, before, part);
-        before += part.length;
+    for k in 0..placed.chain.stages.len() {
+        let stage = Part {
+            place: Place::Board(placed.board_of(k)),
+            stage: k + 1,
+            length: placed.chain.stages[k].length,
+        };
+        let message = placed.message_after(k);
+        before = put(row, pace, before, Some(stage));
+        before = put(row, pace, before, message);
     }
 }
 
