@@ -47,7 +47,9 @@ fn replaced(table: &[Item], place: usize, item: Item) -> [Item; 32]
     copy
 }
 
-// The table that the test below is asked about, behind which the copy is filled up.
+// The table that the test below is asked about, behind which the copy is filled up. Always inlined,
+// since a call of its own would hand the copy over by copying it.
+#[inline(always)]
 fn narrowed(question: Question<'_>, ticks: u32) -> Option<[Item; 32]>
     ensures { of_question (Narrowed ticks) question.entry result }
 {
