@@ -1,11 +1,12 @@
 -- What comes next in a file, from what is wrong with a record's bounds and with its body.
-use Rattle.std.proofs.Common.{◌≡◌, ℕ, suc, ◌+◌, ◌<◌, List, [], ◌∷◌, length, Some, None, Option, refl, ap, ◌∙◌, arith}
+use Rattle.std.proofs.Common.{◌≡◌, ℕ, suc, ◌+◌, ◌<◌, eqb, List, [], ◌∷◌, length, Some, None, Option, refl, ap, ◌∙◌, arith}
+use Rattle.std.proofs.lemmas.Bool.{eq-eqb}
 use Rattle.std.proofs.lemmas.Bool.Decides.{nat_tests}
 use Rattle.chain.proofs.Firsts.{none_first}
 use Rattle.chain.specs.Drafting.{Contents}
-use Rattle.chain.specs.Refusals.{Described, first_of}
+use Rattle.chain.specs.Refusals.{Described, first_of, numbered, unless}
 use Rattle.chain_file.specs.Fields.{head, rest, said}
-use Rattle.chain_file.specs.Format.{after_record, body, body_refusal, chain, cut_refusal, held_by, most_chains, next, record_refusal, records, unless_refused}
+use Rattle.chain_file.specs.Format.{after_record, body, body_refusal, body_size, chain, cut_refusal, fields_refusal, held_by, most_chains, next, record_refusal, records, unless_refused}
 
 -- where the first of two conditions does not stand
 second_decides : (a b : Option Described) → a ≡ None → first_of (a ∷ b ∷ []) ≡ b
@@ -28,6 +29,12 @@ module _ (read : ℕ) (bs : List ℕ) (some : 0 < length bs) where
 -- a cut that is right has room for one record more
 pub cut_room : (read : ℕ) (bs : List ℕ) → cut_refusal read bs ≡ None → read < most_chains
 cut_room read bs right = grind (arith, nat_tests)
+
+-- where the stage count is right, the fields decide
+pub body_by_fields : (bs : List ℕ) → body_size (head bs).stages ≡ length bs → body_refusal bs ≡ fields_refusal (head bs) (rest bs)
+body_by_fields bs right =
+    let wrong = numbered 15 (length bs ∷ []) in
+    second_decides (unless (eqb (body_size (head bs).stages) (length bs)) wrong) (fields_refusal (head bs) (rest bs)) (ap (λ b. unless b wrong) (eq-eqb (body_size (head bs).stages) (length bs) right))
 
 -- a record that is right in its bounds and in its body gives its chain
 pub next-chain : (read : ℕ) (bs : List ℕ) → 0 < length bs → cut_refusal read bs ≡ None → body_refusal (body bs) ≡ None → next read bs ≡ chain (said (head (body bs)) (rest (body bs))) (after_record bs)

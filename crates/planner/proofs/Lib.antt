@@ -1,1 +1,2 @@
 pub mod ReaderTexts
+pub mod Texts

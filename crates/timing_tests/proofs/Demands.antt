@@ -1,12 +1,12 @@
 -- What the work of the items above comes to. Assumes nothing.
-use Rattle.std.proofs.Common.{◌≡◌, ℕ, max, ◌++◌, ◌+◌, ◌*◌, ◌/◌, ◌%◌, ◌^◌, ◌<◌, ◌≤◌, Bool, true, false, List, [], ◌∷◌, length, get_or, take, sum_by, ap, ⊎_elim, mul-le-mul_right, mod-eq_of_lt, arith}
+use Rattle.std.proofs.Common.{◌≡◌, ℕ, max, ◌++◌, ◌+◌, ◌*◌, ◌/◌, ◌%◌, ◌^◌, ◌<◌, ◌≤◌, Bool, true, false, List, [], ◌∷◌, length, get_or, drop, take, sum_by, ap, ◌∙◌, ⊎_elim, mul-le-mul_right, mod-eq_of_lt, arith}
 use native.Mathlib.Nat.{div-eq_of_lt, div-le_of_le-mul}
 use Rattle.std.proofs.lemmas.Nat.{div-add-mod', le-div, mul-le}
 use Rattle.std.proofs.lemmas.List.Sums.{sum_by-append, sum_by-cons}
-use Rattle.std.proofs.lemmas.Bool.{cases_eq}
+use Rattle.std.proofs.lemmas.Bool.{cases_eq, cond-true, cond-false}
 use Rattle.timing.specs.declared.items.Item.{Item}
-use Rattle.timing.specs.Places.{chosen, holds}
-use Rattle.timing.specs.Lemmas.Choosing.{chosen_taken}
+use Rattle.timing.specs.Places.{chosen, chosen_from, holds}
+use Rattle.timing.specs.Lemmas.Choosing.{chosen-all, chosen-more, chosen_taken}
 use Rattle.timing_tests.specs.Demand.{interference, longest, releases}
 use Rattle.timing_tests.specs.Steps.{first, share, shares}
 
@@ -34,21 +34,45 @@ work_bounded inclusive t period length short =
 pub share_small : (x : Item) → share x ≤ 2 ^ 32
 share_small x = div-le_of_le-mul x.period (omega arith)
 
+-- one turn of a loop that adds up what the items of a set bring: x stands at place k
+module _ (f : Item → ℕ) (m k sum whole : ℕ) (xs : List Item) where
+  -- the set holds the place: what x brings is added
+  pub sum_taken : (x : Item) → k < length xs → x ≡ get_or xs k x → holds m k ≡ true → sum + sum_by f (chosen_from m k (drop k xs)) ≡ whole → (sum + f x) + sum_by f (chosen_from m (k + 1) (drop (k + 1) xs)) ≡ whole
+  sum_taken x within is has before =
+      let row = chosen_from m (k + 1) (drop (k + 1) xs) in
+      let now : sum_by f (chosen_from m k (drop k xs)) ≡ f x + sum_by f row =
+      ap (sum_by f) (chosen-more m k xs x within is ∙ cond-true (holds m k) _ _ has) ∙ sum_by-cons f x row in
+      omega arith
+
+  -- it does not: nothing is added
+  pub sum_skipped : (x : Item) → k < length xs → x ≡ get_or xs k x → holds m k ≡ false → sum + sum_by f (chosen_from m k (drop k xs)) ≡ whole → sum + sum_by f (chosen_from m (k + 1) (drop (k + 1) xs)) ≡ whole
+  sum_skipped x within is has before =
+      let row = chosen_from m (k + 1) (drop (k + 1) xs) in
+      let now : sum_by f (chosen_from m k (drop k xs)) ≡ sum_by f row =
+      ap (sum_by f) (chosen-more m k xs x within is ∙ cond-false (holds m k) _ _ has) in
+      omega arith
+
+  -- past the last item all is added
+  pub sum_all : length xs ≤ k → sum + sum_by f (chosen_from m k (drop k xs)) ≡ whole → sum ≡ whole
+  sum_all past before =
+      let now : sum_by f (chosen_from m k (drop k xs)) ≡ 0 = ap (sum_by f) (chosen-all m k xs past) in
+      omega arith
+
 -- What a loop over a row has gathered, with one item more: x stands at place k, and the set holds
 -- that place.
 module _ (m k : ℕ) (xs : List Item) (x : Item) (within : k < length xs) (is : x ≡ get_or xs k x) (has : holds m k ≡ true) where
-  sum_taken : (f : Item → ℕ) → sum_by f (chosen m (take (k + 1) xs)) ≡ sum_by f (chosen m (take k xs)) + f x
-  sum_taken f =
+  sum_more : (f : Item → ℕ) → sum_by f (chosen m (take (k + 1) xs)) ≡ sum_by f (chosen m (take k xs)) + f x
+  sum_more f =
       let a = sum_by-append f (chosen m (take k xs)) (x ∷ []) in
       let b = sum_by-cons f x [] in
       let e = ap (sum_by f) (chosen_taken m k xs x within is has) in
       omega arith
 
   pub interference_taken : (inclusive : Bool) (t : ℕ) → interference inclusive (chosen m (take (k + 1) xs)) t ≡ interference inclusive (chosen m (take k xs)) t + releases inclusive t x.period * x.length
-  interference_taken inclusive t = sum_taken (λ y. releases inclusive t y.period * y.length)
+  interference_taken inclusive t = sum_more (λ y. releases inclusive t y.period * y.length)
 
   pub shares_taken : shares (chosen m (take (k + 1) xs)) ≡ shares (chosen m (take k xs)) + share x
-  shares_taken = sum_taken share
+  shares_taken = sum_more share
 
   pub longest_taken : longest (chosen m (take (k + 1) xs)) ≡ max (longest (chosen m (take k xs))) x.length
   longest_taken =

@@ -1,6 +1,6 @@
 -- The items at a set's places. Assumes nothing.
-use Rattle.std.proofs.Common.{◌≡◌, ℕ, zero, suc, ◌+◌, ◌<◌, ◌≤◌, Bool, true, false, cond, List, [], ◌∷◌, ◌++◌, length, get_or, take, set, Some, sym, refl, ap, ◌∙◌, ⊎_elim, arith}
-use Rattle.std.proofs.lemmas.List.{append-nil, length-take-le, take_more}
+use Rattle.std.proofs.Common.{◌≡◌, ℕ, zero, suc, ◌+◌, ◌<◌, ◌≤◌, Bool, true, false, cond, List, [], ◌∷◌, ◌++◌, length, get_or, drop, take, set, Some, sym, refl, ap, ◌∙◌, ⊎_elim, arith}
+use Rattle.std.proofs.lemmas.List.{append-nil, at_drop_all, at_drop_more, length-take-le, take_more}
 use Rattle.std.proofs.lemmas.Bool.{cases_Bool, cond-true, cond-false}
 use Rattle.std.specs.List.{slice_get}
 use Rattle.timing.specs.Places.{chosen, chosen_from, holds}
@@ -95,6 +95,16 @@ chosen_taken m k xs x within is has =
 pub chosen_skipped : {X : Type 0} (m k : ℕ) (xs : List X) (x : X) → k < length xs → x ≡ get_or xs k x → holds m k ≡ false → chosen m (take (k + 1) xs) ≡ chosen m (take k xs)
 chosen_skipped m k xs x within is has =
     chosen-turn m k xs x within is ∙ ap (λ r. chosen m (take k xs) ++ r) (cond-false (holds m k) _ _ has) ∙ append-nil (chosen m (take k xs))
+
+-- one turn of a loop over a table, with the place counted beside it
+pub chosen-more : {X : Type 0} (m k : ℕ) (xs : List X) (x : X) → k < length xs → x ≡ get_or xs k x → chosen_from m k (drop k xs) ≡ cond (holds m k) (x ∷ chosen_from m (k + 1) (drop (k + 1) xs)) (chosen_from m (k + 1) (drop (k + 1) xs))
+chosen-more m k xs x within is =
+    at_drop_more (chosen_from m k) xs k x within
+    ∙ ap (λ y. chosen_from m k (y ∷ drop (k + 1) xs)) (sym is)
+
+-- past the table nothing is chosen
+pub chosen-all : {X : Type 0} (m k : ℕ) (xs : List X) → length xs ≤ k → chosen_from m k (drop k xs) ≡ []
+chosen-all m k xs past = at_drop_all (chosen_from m k) xs k past
 
 -- the item at a place inside a table, and what stands there after a write
 pub item_there : {X : Type 0} (xs : List X) (i : ℕ) → i < length xs → (x : X) × (slice_get xs i ≡ Some x)

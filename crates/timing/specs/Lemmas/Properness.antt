@@ -1,6 +1,6 @@
 -- The test for a proper question says what is meant by one; and a proper question stays proper
 -- when a place changes sides or leaves. Assumes nothing.
-use Rattle.std.proofs.Common.{◌≡◌, ℕ, ◌^◌, ◌<◌, true, false, not, ◌&&◌, ◌||◌, eqb, sym, refl, ap, ◌∙◌, ⊎_elim, arith}
+use Rattle.std.proofs.Common.{◌≡◌, ℕ, ◌^◌, ◌<◌, true, false, not, ◌&&◌, ◌||◌, eqb, Decides, sym, refl, ap, ◌∙◌, ⊎_elim, arith}
 use lib.Bits.{bit_and}
 use Rattle.std.proofs.Math.Bool.{and-false, and-true}
 use Rattle.std.proofs.lemmas.Bool.{and_from, and_parts, both_ways, cases_eq, eq-eqb, eqb-true, le-leb, leb-true, lt-ltb, ltb-true, ne_eqb, not-true, not_from_false}
@@ -35,6 +35,10 @@ proper_from n place above below p =
     (and_from _ _ (lt-ltb below (2 ^ n) (inside_from n below p.below_inside))
     (and_from _ _ (eq-eqb (bit_and above below) 0 (apart_from above below p.apart))
     (and_from _ _ (not_from_false _ p.not_above) (not_from_false _ p.not_below))))))
+
+-- the test is true just for a proper question
+pub proper-decides : (n place above below : ℕ) → Decides (proper n place above below) (Proper n place above below)
+proper-decides n place above below = (proper_says n place above below, proper_from n place above below)
 
 -- a set less a place holds nothing new, and not that place
 pub without_less : (set i j : ℕ) → holds (without_place set i) j ≡ true → holds set j ≡ true

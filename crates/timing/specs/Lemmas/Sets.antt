@@ -121,6 +121,11 @@ apart_from a b apart =
     (λ none. omega arith)
     (cases_lt 0 (bit_and a b))
 
+-- a set of k bits holds no place from k on
+pub holds-past : (k set i : ℕ) → set < 2 ^ k → k ≤ i → holds set i ≡ false
+holds-past k set i small past =
+    ⊎_elim (λ e. let h : i < k = inside_says k set i small e in let no : ⊥ = omega arith in absurd no) (λ e. e) (cases_Bool (holds set i))
+
 -- a set of 32 bits holds no place from 32 on
 pub none_past : (set i : ℕ) → set < 2 ^ 32 → 32 ≤ i → holds set i ≡ false
 unfolding holds

@@ -37,7 +37,7 @@ bus_there x above below w h = (omega arith, omega arith, le-leb (bus_demand x ab
 bus_back : (x : Item) (above below : List Item) (w : ℕ) → Among (λ k. leb (bus_demand x above below k) k) 0 (x.window + 1 - x.length) w → Covered true above (longest (x ∷ below)) (x.window - x.length) w
 bus_back x above below w h = (omega arith, leb-true (bus_demand x above below w) w h.2)
 
-bus_time_is : (x : Item) (above below : List Item) (o : Option ℕ) → Least (Covered true above (longest (x ∷ below)) (x.window - x.length)) o → option_map (λ w. w + x.length) o ≡ bus_time x above below
+pub bus_time_is : (x : Item) (above below : List Item) (o : Option ℕ) → Least (Covered true above (longest (x ∷ below)) (x.window - x.length)) o → option_map (λ w. w + x.length) o ≡ bus_time x above below
 bus_time_is x above below o h =
     ap (option_map (λ w. w + x.length))
     (least_is_first (Covered true above (longest (x ∷ below)) (x.window - x.length)) (λ k. leb (bus_demand x above below k) k) 0 (x.window + 1 - x.length) o (bus_there x above below) (bus_back x above below) h)
