@@ -52,7 +52,7 @@ impl<const S: usize, const B: u8> Placed<'_, S, B> {
     }
 
     // The pace of the chain's work, where the parts together are within the deadline. Stage by stage,
-    // as the row is filled: by an iterator over the parts a placement took up to twice the time.
+    // as the row is filled: an iterator over the parts is slower, most where they are too long.
     fn pace(self) -> Option<Pace>
         ensures { Paced self.entry.chain.now.heading.deadline (total (parts_of self.entry)) result }
     {

@@ -1,7 +1,7 @@
 use Rattle.std.proofs.Common.{◌≡◌, ◌+◌, ◌<◌, ◌++◌, length, vec_items, sym, ap, ◌∙◌, append-nil, arith, rules}
 use Rattle.chain.specs.Drafting.{contents}
 use Rattle.chain.specs.Parts.{parts, total}
-use Rattle.chain.specs.Windows.{windowed}
+use Rattle.chain.specs.Windows.{windowed, windows}
 use Rattle.chain.proofs.Filling.{row_fills}
 use Rattle.chain.proofs.PartSteps.{fill_turn, left, message, nothing_left, total-step}
 use Rattle.chain.proofs.windows.fill.Given as given
@@ -48,9 +48,10 @@ returns g c =
     let chain = c.args.placed.chain.now in
     let boards = c.args.placed.boards.now in
     let done = nothing_left (contents chain) boards c.loop-k.k (omega (arith, chain.stages.ok.0)) in
-    let items = sym (append-nil _) ∙ ap (λ ps. vec_items c.loop-k.row ++ windowed c.args.pace.deadline c.args.pace.work c.loop-k.before ps) (sym done) ∙ c.loop-k.invariant.1 in
+    let all = sym (append-nil _) ∙ ap (λ ps. vec_items c.loop-k.row ++ windowed c.args.pace.deadline c.args.pace.work c.loop-k.before ps) (sym done) ∙ c.loop-k.invariant.1 in
+    let items : c.loop-k.row.items ≡ windows (contents chain) boards = all in
     record {
-      items = search rules;
-      filled = row_fills chain.heading.deadline c.loop-k.row.items (parts (contents chain) boards) (search rules) (omega (arith, c.requires.work, c.args.pace.some)) (omega (arith, c.requires.work, c.requires.deadline, c.args.pace.fits));
+      items = items;
+      filled = row_fills chain.heading.deadline c.loop-k.row.items (parts (contents chain) boards) items (omega (arith, c.requires.work, c.args.pace.some)) (omega (arith, c.requires.work, c.requires.deadline, c.args.pace.fits));
       capacity = c.loop-k.invariant.3;
     }
